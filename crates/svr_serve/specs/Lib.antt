@@ -1,0 +1,11 @@
+pub mod Buffer
+pub mod Cells
+pub mod Lines
+pub mod Program
+pub mod Reads
+pub mod Replies
+pub mod Requests
+pub mod Rows
+pub mod Run
+pub mod Serving
+pub mod Table

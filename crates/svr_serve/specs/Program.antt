@@ -1,0 +1,48 @@
+-- What the program does, by the status that it ends with.
+use Rattle.std.specs.Prelude.{◌≡◌, ◌⊎◌, ℕ, ◌==◌, Bool, true, false, List, [], ◌∷◌, ◌++◌, codes, if◌then◌else◌, Option, IfSome}
+use Rattle.std.specs.Str.{bytes_eq}
+use Rattle.std.specs.Io.KnownBytes.{Appends, IsAtEnd}
+use Rattle.svr_edge.specs.Causes.{Rose}
+use Rattle.svr_serve.specs.declared.reply.Reply.{Reply}
+use Rattle.svr_serve.specs.Run.{AnswersAll, AnswersFirst, texts}
+
+-- the words, the program's name first, ask to serve
+abbrev pub asks_to_serve : List (List ℕ) → Bool
+asks_to_serve (program ∷ mode ∷ []) = bytes_eq mode (codes "serve")
+asks_to_serve _ = false
+
+-- the line of a status that tells a fault
+abbrev pub fault_line : ℕ → List ℕ
+fault_line status =
+    if status == 2 then codes "{\"fault\":\"words\"}\n"
+    else if status == 3 then codes "{\"fault\":\"input\"}\n"
+    else if status == 7 then codes "{\"fault\":\"memory\"}\n"
+    else if status == 8 then codes "{\"fault\":\"long\"}\n"
+    else []
+
+abbrev pub IsPrefix : List ℕ → List ℕ → Type 0
+IsPrefix front whole = (rest : List ℕ) × (whole ≡ front ++ rest)
+
+-- the input was read to its end, and what was written are the replies to all its lines
+pub record Served (left rest taken now : Option (List ℕ)) : Type 0 where
+  pub end : IsAtEnd rest
+  pub replies : IfSome left (λ input. (replies : List Reply) × AnswersAll input replies × Appends taken now (texts replies))
+
+-- what was written is the beginning of the replies to the first lines of the input
+abbrev pub WritesPart : Option (List ℕ) → Option (List ℕ) → Option (List ℕ) → Type 0
+WritesPart left taken now = IfSome left (λ input.
+    (replies : List Reply) × (written : List ℕ) × AnswersFirst input replies × IsPrefix written (texts replies) × Appends taken now written)
+
+-- a fault line was written, whole, or in part where the sink failed
+pub record WritesFault (status before after : ℕ) (line : List ℕ) : Type 0 where
+  pub part : IsPrefix line (fault_line status)
+  pub cause : (line ≡ fault_line status) ⊎ Rose before after
+
+-- what was written are the replies to the first lines of the input, and then the fault line
+abbrev pub Stopped : ℕ → ℕ → ℕ → Option (List ℕ) → Option (List ℕ) → Option (List ℕ) → Type 0
+Stopped status before after left taken now = IfSome left (λ input.
+    (replies : List Reply) × (line : List ℕ) × AnswersFirst input replies × WritesFault status before after line × Appends taken now (texts replies ++ line))
+
+-- nothing but the fault line was written
+abbrev pub WritesFaultAlone : ℕ → ℕ → ℕ → Option (List ℕ) → Option (List ℕ) → Type 0
+WritesFaultAlone status before after taken now = (line : List ℕ) × WritesFault status before after line × Appends taken now line

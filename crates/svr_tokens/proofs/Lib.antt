@@ -1,0 +1,4 @@
+mod Gathered
+pub mod Order
+pub mod Laws
+mod Search
