@@ -1,14 +1,13 @@
 -- What was written in the end, by how serving ended.
-use Rattle.std.proofs.Common.{◌≡◌, ◌≢◌, ℕ, ◌<◌, ◌≤◌, List, [], ◌∷◌, ◌++◌, Option, Some, None, inl, inr, refl, sym, ap, ◌∙◌, subst, arith, append-nil, lit<, Contains}
-use Rattle.std.specs.Io.KnownBytes.{Appends, IsAtEnd}
+use Rattle.std.proofs.Common.{◌≡◌, ◌≢◌, ℕ, ◌≤◌, List, [], ◌∷◌, ◌++◌, Option, Some, None, inl, inr, refl, ap, ◌∙◌, subst, arith, append-nil, Contains}
+use Rattle.std.specs.Io.KnownBytes.{Appends}
 use Rattle.std.proofs.KnownBytes.{Appends-trans, Appends-nil}
 use Rattle.svr_edge.proofs.CausesLemmas.{Rose-earlier}
-use Rattle.svr_serve.specs.declared.reply.Reply.{Reply}
 use Rattle.svr_serve.specs.declared.serve.Ending.{Ending}
 use Rattle.svr_serve.specs.declared.serve.Ending.TheVariants.{Complete, Words, Input, Output, Memory, Bytes}
 use Rattle.svr_serve.specs.Lines.{lines_of}
-use Rattle.svr_serve.specs.Program.{IsPrefix, Served, Stopped, WritesFault, WritesPart, fault_line}
-use Rattle.svr_serve.specs.Run.{AnswersFirst, texts}
+use Rattle.svr_serve.specs.Program.{IsPrefix, Served, Stopped, WritesFault, WritesPart}
+use Rattle.svr_serve.specs.Run.{texts}
 use Rattle.svr_serve.specs.Serving.{EndsBy, WritesFirst, status_of}
 
 pub status_among : (e : Ending) → Contains (0 ∷ 2 ∷ 3 ∷ 4 ∷ 7 ∷ 8 ∷ []) (status_of e)

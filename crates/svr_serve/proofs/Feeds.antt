@@ -1,5 +1,5 @@
 -- Line feeds in lists of bytes, and parts of a list.
-use Rattle.std.proofs.Common.{◌≡◌, ◌≢◌, ℕ, zero, suc, ◌+◌, ◌-◌, ◌<◌, ◌≤◌, min, List, [], ◌∷◌, ◌++◌, length, take, drop, get_or, slice_index, refl, sym, ap, ap₂, ◌∙◌, arith}
+use Rattle.std.proofs.Common.{◌≡◌, ℕ, ◌+◌, ◌-◌, ◌≤◌, List, ◌++◌, length, take, drop, get_or, sym, ap, ap₂, ◌∙◌, arith}
 use Rattle.std.proofs.lemmas.List.{drop-take, take-take, take-append-drop, drop-drop, length-take, length-take-le, length-drop, get_or-drop}
 use Rattle.std.specs.List.{slice_range}
 use Rattle.svr_serve.specs.Reads.{NoFeed, FirstFeed}

@@ -1,5 +1,5 @@
 -- Rows that are kept by their ids.
-use Rattle.std.proofs.Common.{◌≡◌, ◌≢◌, ℕ, ◌<◌, ◌==◌, ◌||◌, ◌+◌, length, Bool, true, false, cond, nat_lt, List, [], ◌∷◌, map, Option, Some, None, is_some, inl, inr, refl, sym, ap, ap₂, ◌∙◌, subst, rules, arith}
+use Rattle.std.proofs.Common.{◌≡◌, ℕ, ◌<◌, ◌==◌, ◌||◌, ◌+◌, length, Bool, true, false, cond, nat_lt, List, [], ◌∷◌, Option, Some, is_some, inl, inr, refl, sym, ap, ap₂, ◌∙◌, subst, rules, arith}
 use Rattle.std.specs.Ordering.{nat_cmp, match_ordering, is_eq}
 use Rattle.std.specs.declared.cmp.Ordering.{Ordering}
 use Rattle.std.specs.declared.cmp.Ordering.TheVariants.{Less, Equal, Greater}

@@ -1,6 +1,6 @@
 -- Runs that go on by one line, and how they end.
-use Rattle.std.proofs.Common.{◌≡◌, ℕ, ◌+◌, ◌≤◌, List, [], ◌∷◌, ◌++◌, length, flat_map, Option, Some, None, IfSome, refl, sym, ap, ◌∙◌, subst, arith, append_assoc, append-nil, length-append}
-use Rattle.std.specs.Io.KnownBytes.{Consumes, Appends, IsAtEnd, prepend_known}
+use Rattle.std.proofs.Common.{◌≡◌, ℕ, ◌+◌, List, [], ◌∷◌, ◌++◌, Option, Some, None, refl, sym, ap, ◌∙◌, subst, arith, append_assoc, append-nil, length-append}
+use Rattle.std.specs.Io.KnownBytes.{Appends, IsAtEnd, prepend_known}
 use Rattle.std.proofs.KnownBytes.{Appends-trans, Appends-nil, Consumes-trans, Consumes-nil}
 use Rattle.svr_serve.specs.declared.request.Row.{Row}
 use Rattle.svr_serve.specs.declared.reply.Reply.{Reply}
@@ -8,7 +8,7 @@ use Rattle.svr_serve.specs.Lines.{lines_of, TakesLine, Took}
 use Rattle.svr_serve.proofs.Stream.{lines_of-nil}
 use Rattle.svr_serve.specs.Program.{IsPrefix, Served, WritesPart}
 use Rattle.svr_serve.specs.Replies.{text_of}
-use Rattle.svr_serve.specs.Run.{IsRun, MayAnswer, rows_next, texts, AnswersFirst, AnswersAll}
+use Rattle.svr_serve.specs.Run.{IsRun, MayAnswer, rows_next, texts, AnswersFirst}
 use Rattle.svr_serve.specs.Serving.{rows_in_end, TakesLines, SoFar, AnswersLine, WritesFirst}
 
 -- one more line

@@ -1,5 +1,5 @@
 -- The lines of a stream, taken one by one from bytes that come in pieces.
-use Rattle.std.proofs.Common.{◌≡◌, ◌≢◌, ℕ, zero, suc, ◌+◌, ◌-◌, ◌<◌, ◌≤◌, ◌⊎◌, inl, inr, ◌==◌, List, [], ◌∷◌, ◌++◌, length, take, drop, get_or, slice_index, refl, sym, ap, ◌∙◌, subst, arith, append_assoc, append-nil, length-append, Option, Some, None, true, false, cond, eq-eqb}
+use Rattle.std.proofs.Common.{◌≡◌, ◌≢◌, ℕ, zero, suc, ◌+◌, ◌<◌, ◌≤◌, inl, inr, List, [], ◌∷◌, ◌++◌, length, take, drop, slice_index, refl, sym, ap, ◌∙◌, subst, arith, append_assoc, append-nil, length-append, Option, Some, None}
 use Rattle.std.proofs.lemmas.Bool.Decides.{nat_tests}
 use Rattle.std.proofs.lemmas.List.{take-append-drop, length-take-le, take_more}
 use Rattle.std.proofs.KnownBytes.{Consumes-trans, Consumes-nil}
@@ -8,7 +8,7 @@ use native.Mathlib.Decide.{dec_lt}
 use Prim.{yes, no}
 use Rattle.std.specs.Io.KnownBytes.{Consumes, IsAtEnd, Keeps, prepend_known}
 use Rattle.svr_serve.specs.Lines.{lines_of, onto_first, TakesLine, Took, Reading, taken_bytes}
-use Rattle.svr_serve.specs.Reads.{NoFeed, FirstFeed, IsUnbroken, Reads, EndsLine}
+use Rattle.svr_serve.specs.Reads.{NoFeed, IsUnbroken, Reads, EndsLine}
 
 -- ---- one line in front
 

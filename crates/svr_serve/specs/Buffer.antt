@@ -1,5 +1,5 @@
 -- How a buffer keeps what was read and isn't handed out.
-use Rattle.std.specs.Prelude.{◌≡◌, ℕ, ◌+◌, ◌-◌, ◌≤◌, vec_len}
+use Rattle.std.specs.Prelude.{◌≡◌, ◌+◌, ◌-◌, ◌≤◌, vec_len}
 use Rattle.std.specs.List.{slice_range}
 use Rattle.svr_serve.specs.declared.lines.Lines.TheInside.{Inside}
 use Rattle.svr_serve.specs.declared.lines.TheConstants.{ROOM}

@@ -1,13 +1,14 @@
 -- Runs: the lines of an input with their replies, one after the other.
-use Rattle.std.specs.Prelude.{◌≡◌, ◌⊎◌, ⊤, ℕ, ◌+◌, Bool, true, false, List, [], ◌∷◌, ◌++◌, length, if◌then◌else◌, Option, Some, None, Result, Ok, Err}
+use Rattle.std.specs.Prelude.{◌≡◌, ◌⊎◌, ℕ, ◌+◌, Bool, true, false, List, [], ◌∷◌, ◌++◌, length, if◌then◌else◌, Result, Ok, Err}
 use Rattle.std.specs.List.{flat_map}
 use Rattle.svr_serve.specs.declared.request.Row.{Row}
 use Rattle.svr_serve.specs.declared.request.Request.{Request}
-use Rattle.svr_serve.specs.declared.request.Request.TheVariants.{Insert}
+use Rattle.svr_serve.specs.declared.request.Request.TheVariants.{Insert, Search}
 use Rattle.svr_serve.specs.declared.reply.Refusal.{Refusal}
 use Rattle.svr_serve.specs.declared.reply.Refusal.TheVariants.{KeyExists, Memory}
 use Rattle.svr_serve.specs.declared.reply.Reply.{Reply}
-use Rattle.svr_serve.specs.declared.reply.Reply.TheVariants.{Accepted, Refused}
+use Rattle.svr_serve.specs.declared.reply.Reply.TheVariants.{Accepted, Found, Refused}
+use Rattle.svr_serve.specs.Answers.{answer_of}
 use Rattle.svr_serve.specs.Lines.{lines_of}
 use Rattle.svr_serve.specs.Replies.{text_of}
 use Rattle.svr_serve.specs.Requests.{request_of}
@@ -16,11 +17,13 @@ use Rattle.svr_serve.specs.Rows.{has_id, with_row}
 -- the reply to a request over these rows; an accepted insert is numbered from 1
 abbrev pub reply_to : List Row → Result Request Refusal → Reply
 reply_to rows (Err refusal) = Refused refusal
+reply_to rows (Ok (Search terms k)) = Found (answer_of rows terms k)
 reply_to rows (Ok (Insert row)) = if has_id rows row.id then Refused KeyExists else Accepted (length rows + 1)
 
 -- the rows after a request; one that is refused leaves them
 abbrev pub rows_after : List Row → Result Request Refusal → List Row
 rows_after rows (Err refusal) = rows
+rows_after rows (Ok (Search terms k)) = rows
 rows_after rows (Ok (Insert row)) = if has_id rows row.id then rows else with_row rows row
 
 -- a request may be answered by its reply, or by want of memory

@@ -1,6 +1,6 @@
 -- How serving ends, before the fault line.
 use Rattle.std.specs.Prelude.{◌≡◌, ℕ, List, [], ◌∷◌, ◌++◌, Option, Some, None, IfSome, ⊤}
-use Rattle.std.specs.Io.KnownBytes.{Appends, IsAtEnd}
+use Rattle.std.specs.Io.KnownBytes.{Appends}
 use Rattle.svr_serve.specs.declared.request.Row.{Row}
 use Rattle.svr_serve.specs.declared.reply.Reply.{Reply}
 use Rattle.svr_serve.specs.declared.serve.Ending.{Ending}

@@ -1,11 +1,12 @@
-ghost use Rattle.std.specs.Prelude.{◌≡◌, ◌+◌, ◌≤◌, [], ◌++◌, length, IfOk};
+ghost use Rattle.std.specs.Prelude.{◌≡◌, ◌+◌, ◌*◌, ◌≤◌, [], ◌++◌, flat_map, length, IfOk};
 ghost use Rattle.std.specs.Fmt.{decimal};
-ghost use Rattle.svr_serve.specs.Replies.{text_of};
+ghost use Rattle.svr_serve.specs.Replies.{IsPrintable, hit_text, hits_text, more_text, text_of};
 
 use itoa::Buffer;
 use std::alloc::Global;
 use std::marker::Model;
-use svr_edge::Memory;
+use svr_edge::{Items, Memory};
+use svr_num::Hit;
 
 /// The room for one reply, in bytes: more than the longest reply takes.
 const REPLY_BYTES: usize = 65_536;
@@ -23,11 +24,21 @@ pub enum Refusal {
     Memory,
 }
 
+/// The answer to a search.
+#[derive(Debug, Drop)]
+pub struct Answer {
+    /// The hits, best first.
+    pub hits: Items<Hit>,
+    /// How many groups of the listing were visited.
+    pub groups: u64,
+}
+
 /// What is answered to a line.
 #[derive(Debug, Drop)]
 pub enum Reply {
     /// The number of the change, from 1.
     Accepted(u64),
+    Found(Answer),
     Refused(Refusal),
 }
 
@@ -99,8 +110,47 @@ fn refusal_text(refusal: Refusal) -> &'static [u8]
     }
 }
 
+/// Prints `[id,score]`.
+fn print_hit(hit: &Hit, into: &mut ReplyBuf)
+    requires { length into.old + 43 ≤ REPLY_BYTES }
+    ensures text { into.new ≡ into.old ++ hit_text hit.now }
+    ensures few { length into.new ≤ length into.old + 43 }
+{
+    into.put(b"[");
+    into.put_number(hit.id);
+    into.put(b",");
+    into.put_number(hit.score);
+    into.put(b"]");
+}
+
+/// Prints hits, each behind a comma.
+fn print_more(hits: &[Hit], into: &mut ReplyBuf)
+    requires { length into.old + 44 * length hits.now ≤ REPLY_BYTES }
+    ensures text { into.new ≡ into.old ++ flat_map more_text hits.now }
+    ensures few { length into.new ≤ length into.old + 44 * length hits.now }
+{
+    for hit in hits {
+        into.put(b",");
+        print_hit(hit, into);
+    }
+}
+
+/// Prints hits, with a comma between each two.
+fn print_hits(hits: &[Hit], into: &mut ReplyBuf)
+    requires { length into.old + 44 * length hits.now ≤ REPLY_BYTES }
+    ensures text { into.new ≡ into.old ++ hits_text hits.now }
+    ensures few { length into.new ≤ length into.old + 44 * length hits.now }
+{
+    let Some((first, rest)) = hits.split_first() else {
+        return;
+    };
+    print_hit(first, into);
+    print_more(rest, into);
+}
+
 /// Prints a reply, in place of what was printed before.
 pub fn print_reply(reply: &Reply, into: &mut ReplyBuf)
+    requires { IsPrintable reply.now }
     ensures { into.new ≡ text_of reply.now }
 {
     into.clear();
@@ -108,6 +158,13 @@ pub fn print_reply(reply: &Reply, into: &mut ReplyBuf)
         Reply::Accepted(number) => {
             into.put(b"{\"ok\":");
             into.put_number(*number);
+            into.put(b"}\n");
+        }
+        Reply::Found(answer) => {
+            into.put(b"{\"hits\":[");
+            print_hits(answer.hits.as_slice(), into);
+            into.put(b"],\"groups\":");
+            into.put_number(answer.groups);
             into.put(b"}\n");
         }
         Reply::Refused(refusal) => into.put(refusal_text(*refusal)),

@@ -1,8 +1,9 @@
-ghost use Rattle.std.specs.Prelude.{◌≡◌, ◌≢◌, ◌+◌, ◌++◌, ◌<◌, ◌≤◌, ◌^◌, ℕ, List, [], length, IsErrOf, IfOk, IfSome, OnOk, OnErr, Ok, None, ◌↔◌, ◌∷◌, false, map, string_bytes, Contains};
+ghost use Rattle.std.specs.Prelude.{◌≡◌, ◌≢◌, ◌+◌, ◌++◌, ◌<◌, ◌≤◌, ◌^◌, ℕ, List, [], length, IsErrOf, IfOk, IfSome, OnOk, OnErr, Ok, None, true, ◌↔◌, ◌∷◌, false, map, string_bytes, Contains};
 ghost use Rattle.std.specs.Io.KnownBytes.{Appends, IsAtEnd, Keeps, prepend_known};
 ghost use Rattle.svr_edge.specs.Causes.{Rose};
 ghost use Rattle.svr_serve.specs.Lines.{TakesLine, Took, taken_bytes};
 ghost use Rattle.svr_serve.specs.Program.{IsPrefix, Served, Stopped, WritesFault, WritesFaultAlone, WritesPart, asks_to_serve, fault_line};
+ghost use Rattle.svr_serve.specs.Replies.{IsPrintable, text_of};
 ghost use Rattle.svr_serve.specs.Run.{MayAnswer, MayReply, rows_next, rows_then};
 ghost use Rattle.svr_serve.specs.Serving.{AnswersLine, EndsBy, status_of};
 
@@ -12,6 +13,7 @@ use crate::reply::{Refusal, Reply, ReplyBuf, print_reply};
 use crate::request::{Request, Row, read_request};
 use std::alloc::Global;
 use svr_edge::{Failed, Memory, Sink, Source};
+use svr_tokens::Tokens;
 
 /// How many bytes of input are read at most.
 pub const INPUT_BYTES: u64 = 1 << 40;
@@ -87,15 +89,28 @@ fn send<O: Sink>(output: &mut O, piece: &[u8]) -> Result<(), Failed>
 }
 
 /// Adds a row.
-fn insert(documents: &mut Documents, row: Row) -> Reply
+fn insert(alloc: Global, documents: &mut Documents, row: Row) -> Reply
     ensures reply { MayReply documents.old (Ok (Request.Insert row)) result }
     ensures rows { documents.new ≡ rows_then documents.old (Ok (Request.Insert row)) result }
+    ensures printable { IsPrintable result }
 {
     if documents.has(row.id) {
         return Reply::Refused(Refusal::KeyExists);
     }
-    match documents.insert(row) {
+    match documents.insert(alloc, row) {
         Ok(()) => Reply::Accepted(documents.len() as u64),
+        Err(Memory) => Reply::Refused(Refusal::Memory),
+    }
+}
+
+/// Searches the rows.
+fn search(alloc: Global, documents: &Documents, terms: &Tokens, k: u32) -> Reply
+    requires { k ≤ 1000 }
+    ensures reply { MayReply documents.now (Ok (Request.Search terms.now k)) result }
+    ensures printable { IsPrintable result }
+{
+    match documents.search(alloc, terms, k) {
+        Ok(answer) => Reply::Found(answer),
         Err(Memory) => Reply::Refused(Refusal::Memory),
     }
 }
@@ -105,9 +120,11 @@ fn answer(alloc: Global, documents: &mut Documents, line: &[u8]) -> Reply
     requires { length line.now ≤ LINE_BYTES }
     ensures reply { MayAnswer documents.old line.now result }
     ensures rows { documents.new ≡ rows_next documents.old line.now result }
+    ensures printable { IsPrintable result }
 {
     match read_request(alloc, line) {
-        Ok(Request::Insert(row)) => insert(documents, row),
+        Ok(Request::Insert(row)) => insert(alloc, documents, row),
+        Ok(Request::Search { terms, k }) => search(alloc, documents, &terms, k),
         Err(refusal) => Reply::Refused(refusal),
     }
 }
@@ -122,6 +139,7 @@ fn next_reply<S: Source>(
     ensures reply { IfOk result (λ answered. IfSome answered (λ reply.
         AnswersLine (prepend_known lines.old.ahead (S.left input.old)) (prepend_known lines.new.ahead (S.left input.new))
         documents.old documents.new reply)) }
+    ensures printable { IfOk result (λ answered. IfSome answered IsPrintable) }
     ensures end { result ≡ Ok None → IsAtEnd (prepend_known lines.old.ahead (S.left input.old))
         × IsAtEnd (S.left input.new) }
 
@@ -139,6 +157,40 @@ fn next_reply<S: Source>(
         Ok(Piece::Line) => Ok(Some(answer(alloc, documents, lines.text()))),
         Ok(Piece::TooLong) => Ok(Some(Reply::Refused(Refusal::BadShape))),
         Ok(Piece::End) => Ok(None),
+        Err(stop) => Err(stop),
+    }
+}
+
+/// Takes the next line, answers it and prints the reply. False at the end of the input.
+fn print_next<S: Source>(
+    alloc: Global,
+    documents: &mut Documents,
+    lines: &mut Lines,
+    buffer: &mut ReplyBuf,
+    input: &mut S,
+) -> Result<bool, InputStop>
+    ensures reply { result ≡ Ok true → (reply : Reply) × (buffer.new ≡ text_of reply)
+        × AnswersLine (prepend_known lines.old.ahead (S.left input.old))
+        (prepend_known lines.new.ahead (S.left input.new)) documents.old documents.new reply }
+    ensures end { result ≡ Ok false → IsAtEnd (prepend_known lines.old.ahead (S.left input.old))
+        × IsAtEnd (S.left input.new) }
+
+    ensures progress { result ≡ Ok true → lines.old.handed < lines.new.handed }
+    ensures few { taken_bytes lines.new ≤ lines.new.limit }
+    ensures limit { lines.new.limit ≡ lines.old.limit }
+    ensures taken { (count : ℕ) × Took count (S.left input.old) (S.left input.new)
+        × (taken_bytes lines.new ≡ taken_bytes lines.old + count) }
+
+    ensures input { IsErrOf result InputStop.Input → Rose (S.faults input.old) (S.faults input.new) }
+    ensures bytes { IsErrOf result InputStop.Bytes → taken_bytes lines.new ≡ lines.new.limit }
+    ensures later { S.faults input.old ≤ S.faults input.new }
+{
+    match next_reply(alloc, documents, lines, input) {
+        Ok(Some(reply)) => {
+            print_reply(&reply, buffer);
+            Ok(true)
+        }
+        Ok(None) => Ok(false),
         Err(stop) => Err(stop),
     }
 }
@@ -161,14 +213,13 @@ fn serve_lines<S: Source, O: Sink>(
 {
     let mut documents = Documents::new(alloc);
     loop {
-        match next_reply(alloc, &mut documents, lines, input) {
-            Ok(Some(reply)) => {
-                print_reply(&reply, buffer);
+        match print_next(alloc, &mut documents, lines, buffer, input) {
+            Ok(true) => {
                 if let Err(Failed) = send(output, buffer.bytes()) {
                     return Ending::Output;
                 }
             }
-            Ok(None) => return Ending::Complete,
+            Ok(false) => return Ending::Complete,
             Err(InputStop::Input) => return Ending::Input,
             Err(InputStop::Bytes) => return Ending::Bytes,
         }

@@ -7,7 +7,6 @@ use Rattle.std.specs.Str.{bytes_eq}
 use Rattle.std.specs.BTreeSet.{insert_key}
 use Rattle.unicode_segmentation.specs.Word.{words}
 use Rattle.caseless.specs.Caseless.{default_case_fold}
-use Rattle.svr_tokens.specs.declared.words.TheConstants.{TERM_BYTES}
 
 -- a word in default case folding
 abbrev pub folded : List ℕ → List ℕ
@@ -15,7 +14,7 @@ folded word = encode_utf8_all (default_case_fold (chars word))
 
 -- whether a folded word is short enough to be a term
 abbrev pub is_short : List ℕ → Bool
-is_short term = nat_le (length term) TERM_BYTES
+is_short term = nat_le (length term) 255
 
 -- the folded words of a text in their order, repeats included, without those that are too long
 unfoldable pub terms_in : List ℕ → List (List ℕ)

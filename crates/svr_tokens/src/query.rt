@@ -34,9 +34,9 @@ impl From<Memory> for QueryRefusal {
 /// The terms of a query, from one to `QUERY_TERMS` of them.
 pub fn query_terms(alloc: Global, query: &str) -> Result<Tokens, QueryRefusal>
     ensures value { IfOk result (λ terms. terms ≡ tokens_of query.now) }
-    ensures few { IfOk result (λ terms. (0 < length terms) × (length terms ≤ QUERY_TERMS)) }
+    ensures few { IfOk result (λ terms. (0 < length terms) × (length terms ≤ 16)) }
     ensures none { result ≡ Err QueryRefusal.NoTerms → tokens_of query.now ≡ [] }
-    ensures many { result ≡ Err QueryRefusal.TooManyTerms → QUERY_TERMS < length (tokens_of query.now) }
+    ensures many { result ≡ Err QueryRefusal.TooManyTerms → 16 < length (tokens_of query.now) }
 {
     let terms = tokens(alloc, query)?;
     match terms.len() {

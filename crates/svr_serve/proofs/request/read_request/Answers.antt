@@ -5,11 +5,11 @@ use Rattle.svr_serve.specs.Requests.{IsOrMemory}
 use Rattle.svr_serve.proofs.Requests.{request_of-value, request_of-none}
 use Rattle.svr_serve.proofs.request.read_request.Goals as goal
 
-pub returns-in-Ok : goal.returns-in-Ok
-returns-in-Ok c =
+pub returns-in-Ok-clause-request : goal.returns-in-Ok-clause-request
+returns-in-Ok-clause-request c =
     let is = request_of-value c.args.line.now (view c.in-Ok.value) c.requires c.in-Ok.ensures.ok.0 c.in-Ok.ensures.ok.1 in
-    subst (IsOrMemory c.request_in.result) (sym is) c.request_in.ensures
+    subst (IsOrMemory c.request_in.result) (sym is) c.request_in.ensures.request
 
-pub returns-else-is_memory : goal.returns-else-is_memory
-returns-else-is_memory c =
+pub returns-else-is_memory-clause-request : goal.returns-else-is_memory-clause-request
+returns-else-is_memory-clause-request c =
     inr (sym (request_of-none c.args.line.now c.requires (c.in-Err.ensures.err (λ m. absurd (false≢true (c.if-is_memory.ensures.1 m))))))

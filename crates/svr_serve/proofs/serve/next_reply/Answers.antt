@@ -1,6 +1,4 @@
-use Rattle.std.proofs.Common.{◌≡◌, inl, ap, sym, refl}
-use Rattle.svr_serve.specs.declared.lines.Piece.TheVariants.{TooLong}
-use Rattle.svr_serve.specs.declared.reply.Reply.TheVariants.{Refused}
+use Rattle.std.proofs.Common.{inl, ap, sym, refl}
 use Rattle.svr_serve.specs.Run.{reply_to, rows_after}
 use Rattle.svr_serve.proofs.Requests.{request_of-long}
 use Rattle.svr_serve.proofs.serve.next_reply.Goals as goal

@@ -7,8 +7,8 @@ use Rattle.svr_serve.specs.Serving.{SoFar}
 use Rattle.svr_serve.proofs.serve.serve_lines.Given as goal
 
 -- the lines that were taken so far were answered by a run, and its replies written
-abbrev pub invariant-loop-reply : goal.invariant-loop-reply
-invariant-loop-reply g l =
+abbrev pub invariant-loop-output : goal.invariant-loop-output
+invariant-loop-output g l =
     ((lines : List (List ℕ)) × (replies : List Reply)
     × SoFar (g.S.Source.left l.fn.input) (prepend_known l.lines.ahead (g.S.Source.left l.input)) (g.O.Sink.taken l.fn.output) (g.O.Sink.taken l.output)
     l.documents lines replies)
@@ -17,5 +17,5 @@ invariant-loop-reply g l =
     × (g.S.Source.faults l.fn.input ≤ g.S.Source.faults l.input)
     × (g.O.Sink.faults l.fn.output ≤ g.O.Sink.faults l.output)
 
-abbrev pub decreases-loop-reply : goal.decreases-loop-reply
-decreases-loop-reply g l = INPUT_BYTES - l.lines.handed
+abbrev pub decreases-loop-output : goal.decreases-loop-output
+decreases-loop-output g l = INPUT_BYTES - l.lines.handed

@@ -1,4 +1,4 @@
-use Rattle.std.proofs.Common.{◌≡◌, ◌≢◌, ℕ, [], ◌∷◌, sym, ◌∙◌, subst, arith, Contains}
+use Rattle.std.proofs.Common.{ℕ, [], ◌∷◌, sym, ◌∙◌, subst, arith, Contains}
 use Rattle.svr_serve.specs.declared.serve.Ending.TheVariants.{Words}
 use Rattle.svr_serve.specs.Program.{Stopped}
 use Rattle.svr_serve.proofs.Endings.{status_among, served_by, part_by, stopped_by, writes_none, WritesFault-of}

@@ -1,5 +1,5 @@
-use Rattle.std.proofs.Common.{◌≡◌, ◌+◌, ◌≤◌, List, ℕ, [], ◌∷◌, ◌++◌, length, take, drop, refl, ap, ap₂, sym, ◌∙◌, inl, inr, subst, arith, Ok, append-nil, append_assoc, length-append}
-use Rattle.svr_serve.specs.Reads.{Reads, IsUnbroken}
+use Rattle.std.proofs.Common.{◌≡◌, ◌+◌, [], ◌∷◌, ◌++◌, length, take, refl, ap, sym, ◌∙◌, inl, inr, subst, arith, Ok, append-nil, append_assoc, length-append}
+use Rattle.svr_serve.specs.Reads.{IsUnbroken}
 use Rattle.svr_serve.proofs.Stream.{Reads-hand, Reads-as, IsUnbroken-append, IsUnbroken-all, IsUnbroken-take, take-feed, none_of_length, hands_all, ahead_is_read, reads_on, passes_on}
 use Rattle.svr_serve.proofs.lines.Lines.drop_line.Goals as goal
 

@@ -1,4 +1,4 @@
-use Rattle.std.proofs.Common.{◌≡◌, ◌-◌, ◌≤◌, ◌++◌, List, ℕ, [], length}
+use Rattle.std.proofs.Common.{◌≡◌, ◌-◌, ◌≤◌, ◌++◌, List, ℕ, []}
 use Rattle.svr_serve.specs.Lines.{taken_bytes}
 use Rattle.svr_serve.specs.Reads.{Reads, IsUnbroken}
 use Rattle.svr_serve.proofs.lines.Lines.drop_line.Given as goal

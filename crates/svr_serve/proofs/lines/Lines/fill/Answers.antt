@@ -1,6 +1,6 @@
-use Rattle.std.proofs.Common.{◌≡◌, ◌+◌, ◌-◌, ◌<◌, ◌≤◌, List, ℕ, [], ◌++◌, length, min, refl, ap, sym, ◌∙◌, arith, append-nil, length-append}
+use Rattle.std.proofs.Common.{◌≡◌, ◌+◌, ◌-◌, ◌≤◌, [], ◌++◌, length, refl, ap, sym, ◌∙◌, arith, append-nil}
 use Rattle.std.specs.List.{slice_range}
-use Rattle.svr_serve.proofs.Feeds.{read_behind, length-read, length-slice_range-le, slice_range-front}
+use Rattle.svr_serve.proofs.Feeds.{read_behind, length-read, slice_range-front}
 use Rattle.svr_serve.proofs.Stream.{Consumes-kept_all}
 use Rattle.svr_serve.proofs.lines.Lines.fill.Goals as goal
 

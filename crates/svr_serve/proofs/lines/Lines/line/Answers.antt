@@ -1,8 +1,8 @@
-use Rattle.std.proofs.Common.{◌≡◌, ◌+◌, ◌≤◌, List, ℕ, [], ◌∷◌, ◌++◌, length, take, drop, refl, ap, sym, ◌∙◌, subst, arith, append-nil, Ok}
+use Rattle.std.proofs.Common.{◌≡◌, ◌+◌, ◌++◌, take, refl, ap, sym, ◌∙◌, subst, arith, append-nil, Ok}
 use Rattle.std.proofs.lemmas.List.{length-take-le}
 use Rattle.svr_serve.specs.declared.lines.Piece.TheVariants as piece
 use Rattle.svr_serve.specs.Lines.{TakesLine}
-use Rattle.svr_serve.specs.Reads.{Reads, IsUnbroken, NoFeed}
+use Rattle.svr_serve.specs.Reads.{IsUnbroken}
 use Rattle.svr_serve.proofs.Stream.{Reads-then, Reads-hand, passes_on, takes_count, NoFeed-join, takes_by_feed, takes_at_end, takes_by_drop, hands_rest, IsUnbroken-all, none_of_length}
 use Rattle.svr_serve.proofs.lines.Lines.line.Goals as goal
 
