@@ -1,7 +1,8 @@
 -- A source in memory, and what a read answers and does.
 use Rattle.std.specs.Prelude.{ℕ, min, List, ◌++◌, length, take, drop, Bool, if◌then◌else◌, Result, Ok, Err}
 use Rattle.svr_edge.specs.declared.source.Failed.{Failed}
-use Rattle.svr_fakes.specs.Calls.{next_number, is_listed}
+use Rattle.svr_edge.specs.Causes.{one_more}
+use Rattle.svr_fakes.specs.Calls.{is_listed}
 
 -- the bytes that are left, the most that one read gives, the numbers of the reads that fail, and how many reads and
 -- faults there were
@@ -18,7 +19,7 @@ new_source bytes step fail = record { left = bytes; step = step; fail = fail; re
 
 -- the next read fails
 abbrev pub read_fails : SourceState → Bool
-read_fails s = is_listed s.fail (next_number s.reads)
+read_fails s = is_listed s.fail (one_more s.reads)
 
 -- how many bytes a read that doesn't fail gives, into a buffer of this length
 abbrev pub read_count : SourceState → ℕ → ℕ
@@ -36,5 +37,5 @@ filled s into = if read_fails s then into else take (read_count s (length into))
 abbrev pub after_read : SourceState → ℕ → SourceState
 after_read s room =
     if read_fails s
-    then record s { reads = next_number s.reads; faults = next_number s.faults }
-    else record s { left = drop (read_count s room) s.left; reads = next_number s.reads }
+    then record s { reads = one_more s.reads; faults = one_more s.faults }
+    else record s { left = drop (read_count s room) s.left; reads = one_more s.reads }

@@ -2,7 +2,8 @@
 use Rattle.std.specs.Prelude.{◌≡◌, ℕ, ◌+◌, ◌^◌, min, List, [], ◌++◌, take, true, Bool, if◌then◌else◌}
 use Rattle.std.specs.Prelude.{Result, Ok, Err, IfOk, IsErr}
 use Rattle.svr_edge.specs.declared.source.Failed.{Failed}
-use Rattle.svr_fakes.specs.Calls.{next_number, is_listed}
+use Rattle.svr_edge.specs.Causes.{one_more}
+use Rattle.svr_fakes.specs.Calls.{is_listed}
 
 -- the bytes that were taken, the most that one write takes, the numbers of the calls that fail, and how many writes,
 -- flushes and faults there were
@@ -20,7 +21,7 @@ new_sink step fail = record { taken = []; step = step; fail = fail; writes = 0; 
 
 -- the next write fails, also where memory is not wanting
 abbrev pub write_fails : SinkState → Bool
-write_fails s = is_listed s.fail (next_number s.writes)
+write_fails s = is_listed s.fail (one_more s.writes)
 
 -- how many bytes a write that doesn't fail takes, of a piece of this length
 abbrev pub write_count : SinkState → ℕ → ℕ
@@ -33,12 +34,12 @@ pub record WriteAnswers (s : SinkState) (len : ℕ) (result : Result ℕ Failed)
 
 -- the sink after a write of this piece that was answered so
 abbrev pub after_write : SinkState → List ℕ → Result ℕ Failed → SinkState
-after_write s piece (Ok n) = record s { taken = s.taken ++ take n piece; writes = next_number s.writes }
-after_write s piece (Err e) = record s { writes = next_number s.writes; faults = next_number s.faults }
+after_write s piece (Ok n) = record s { taken = s.taken ++ take n piece; writes = one_more s.writes }
+after_write s piece (Err e) = record s { writes = one_more s.writes; faults = one_more s.faults }
 
 -- the next flush fails: its number is listed above those of the writes
 abbrev pub flush_fails : SinkState → Bool
-flush_fails s = is_listed s.fail (next_number s.flushes + 2 ^ 32)
+flush_fails s = is_listed s.fail (one_more s.flushes + 2 ^ 32)
 
 -- what the next flush answers
 abbrev pub flush_answer : SinkState → Result (Unit {0}) Failed
@@ -48,5 +49,5 @@ flush_answer s = if flush_fails s then Err (record {}) else Ok tt
 abbrev pub after_flush : SinkState → SinkState
 after_flush s =
     if flush_fails s
-    then record s { flushes = next_number s.flushes; faults = next_number s.faults }
-    else record s { flushes = next_number s.flushes }
+    then record s { flushes = one_more s.flushes; faults = one_more s.faults }
+    else record s { flushes = one_more s.flushes }

@@ -1,9 +1,9 @@
 ghost use Rattle.std.specs.Prelude.{◌≡◌};
-ghost use Rattle.svr_fakes.specs.Calls.{next_number};
+ghost use Rattle.svr_edge.specs.Causes.{one_more};
 
 /// Counts one more. The count stops at the end of `u64`.
 pub fn raise(count: &mut u64)
-    ensures { count.new ≡ next_number count.old }
+    ensures { count.new ≡ one_more count.old }
 {
     *count = count.saturating_add(1);
 }

@@ -59,6 +59,3 @@ pub length-read : {X : Type 0} (ys : List X) (end count : ℕ) → end + count �
 length-read ys end count fits =
     let n : end + count - end ≡ count = omega arith in
     ap (λ m. length (take m (drop end ys))) n ∙ length-take-le count (drop end ys) (omega (arith, length-drop end ys, fits))
-
-pub length-slice_range-le : {X : Type 0} (xs : List X) (i j : ℕ) → length (slice_range xs i j) ≤ j - i
-length-slice_range-le xs i j = omega (arith, length-take (j - i) (drop i xs))

@@ -78,12 +78,6 @@ served (Some x) (Some y) c t u rows lines replies s e end =
     let all : lines_of x ≡ lines = s.taken_lines ∙ ap (λ ys. lines ++ lines_of ys) e ∙ ap (λ ls. lines ++ ls) lines_of-nil ∙ append-nil lines in
     record { end = end; replies = (replies, subst (λ ls. IsRun [] ls replies) (sym all) s.run, s.written) }
 
--- no further line was taken
-pub writes_first : (a b t u : Option (List ℕ)) (rows : List Row) (lines : List (List ℕ)) (replies : List Reply) → SoFar a b t u rows lines replies → WritesFirst a t u
-writes_first None b t u rows lines replies s = tt
-writes_first (Some x) None t u rows lines replies s = absurd s.taken_lines
-writes_first (Some x) (Some y) t u rows lines replies s = (replies, answers_first x y lines replies s.taken_lines s.run, s.written)
-
 -- a reply was written in part
 pub writes_part : (a b c t u v : Option (List ℕ)) (rows now : List Row) (lines : List (List ℕ)) (replies : List Reply) (reply : Reply) (front : List ℕ)
     → SoFar a b t u rows lines replies → AnswersLine b c rows now reply → IsPrefix front (text_of reply) → Appends u v front → WritesPart a t v

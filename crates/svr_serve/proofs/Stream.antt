@@ -193,10 +193,3 @@ takes_by_drop a b old new began gone bytes p some e = (
     | inr h ↦ takes_at_end a b old new e.0 gone bytes p h.0 h.1 h.2 e.1 (omega (arith, some, e.2))
   ],
 )
-
--- nothing was left
-pub ends_at_end : (a b : Option (List ℕ)) (old new : Reading) (bytes : List ℕ) → Reads a b old new [] bytes → new.ahead ≡ [] → IsAtEnd b → IsAtEnd (prepend_known old.ahead a)
-ends_at_end None b old new bytes p none end = tt
-ends_at_end (Some xs) None old new bytes p none end = absurd p.consumed
-ends_at_end (Some xs) (Some ys) old new bytes p none end =
-    ap (λ zs. old.ahead ++ zs) (p.consumed ∙ ap (λ zs. bytes ++ zs) end ∙ append-nil bytes) ∙ sym p.ahead ∙ none
