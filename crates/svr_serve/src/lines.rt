@@ -271,8 +271,8 @@ impl Lines {
         }
     }
 
-    /// Takes the next line, or passes over it where it is too long. A stop may come only where what was taken and
-    /// isn't handed out has no whole line; after it the lines are spent, and are only dropped.
+    /// Takes the next line, or passes over it where it is too long. After a stop the lines are spent, and are only
+    /// dropped: a part of a line may be lost.
     pub fn line<S: Source>(&mut self, input: &mut S) -> Result<Piece, InputStop>
         ensures line { result ≡ Ok Piece.Line → TakesLine (prepend_known self.old.ahead (S.left input.old))
             (prepend_known self.new.ahead (S.left input.new)) self.new.text }

@@ -278,7 +278,7 @@ fn is_serve(words: &[String]) -> bool
 /// | 3 | the source failed | `{"fault":"input"}` |
 /// | 4 | the sink failed | none |
 /// | 7 | memory was wanting before the first line | `{"fault":"memory"}` |
-/// | 8 | `INPUT_BYTES` bytes were read, and no line of them is left | `{"fault":"long"}` |
+/// | 8 | `INPUT_BYTES` bytes were read | `{"fault":"long"}` |
 ///
 /// Clauses on bytes hold where source and sink tell theirs.
 pub fn svr<S: Source, O: Sink>(alloc: Global, words: &[String], input: &mut S, output: &mut O) -> u8

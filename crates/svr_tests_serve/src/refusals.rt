@@ -1,6 +1,7 @@
-use crate::runs::{assert_served, filled};
+use crate::runs::{filled, serve};
 use std::alloc::{AllocError, Global};
 use std::process::Abort;
+use std::str::from_utf8;
 use std::test::Fail;
 use svr_edge::Memory;
 
@@ -48,14 +49,22 @@ fn surrounded(alloc: Global, line: &[u8]) -> Result<Vec<u8>, AllocError> {
     Ok(input)
 }
 
+/// Serves the line between the others.
+fn serve_surrounded(alloc: Global, line: &[u8]) -> Result<(u8, String), Memory> {
+    let input = surrounded(alloc, line)?;
+    serve(alloc, input.as_slice(), 4_096)
+}
+
 /// Asserts that these are the replies where the line stands between the others.
 fn assert_replies(
     rt: &(impl Abort + AllocGlobal),
     line: &[u8],
     wanted: &str,
 ) -> Result<(), Memory> {
-    let input = surrounded(rt.alloc(), line)?;
-    assert_served(rt, input.as_slice(), 4_096, wanted)
+    let (status, output) = serve_surrounded(rt.alloc(), line)?;
+    let shown = from_utf8(line.get(..200).unwrap_or(line)).unwrap_or("bytes");
+    assert_eq!(rt; (status, output.as_str()), (0, wanted), "at {shown}");
+    Ok(())
 }
 
 /// Asserts it of each line of a text.

@@ -53,7 +53,7 @@ pub fn run(
 }
 
 /// Serves an input in steps of so many bytes.
-fn serve(alloc: Global, input: &[u8], step: u32) -> Result<(u8, String), Memory>
+pub fn serve(alloc: Global, input: &[u8], step: u32) -> Result<(u8, String), Memory>
     requires { 0 < step }
 {
     let mut source = source(alloc, input, step, &[])?;

@@ -66,7 +66,7 @@ const WORDS: (&str, &str) = (
 {"op":"insert","table":"docs","row":[3,3,"blue car"]}
 {"op":"insert","table":"docs","row":[4,4,""]}
 {"op":"insert","table":"docs","row":[5,5,"a b c d e f g h i j k l m n o p q"]}
-{"op":"insert","table":"docs","row":[6,6,"can't É 日本"]}
+{"op":"insert","table":"docs","row":[6,6,"can't E\u0301 日本"]}
 {"op":"search","query":"STRASSE straße"}
 {"op":"search","query":"strasse"}
 {"op":"search","query":"stra\u00dfe"}

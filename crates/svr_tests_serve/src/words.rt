@@ -1,5 +1,5 @@
 use crate::runs::{run, sink, source};
-use std::process::Abort;
+use std::alloc::Global;
 use std::test::Fail;
 use svr_edge::{Memory, Source};
 
@@ -31,25 +31,31 @@ const ROWS: &[Row] = &[
     (&["svr", "sing"], &[1], 2, "", 0),
 ];
 
-/// The read behind the program's is listed as a failing one, so that it fails only if the program reads so often.
-fn assert_row(rt: &(impl Abort + AllocGlobal), row: Row) -> Result<(), Memory> {
-    let (words, writes, status, wanted, reads) = row;
-    let mut source = source(rt.alloc(), &[], 40, &[reads.saturating_add(1)])?;
-    let mut sink = sink(rt.alloc(), 40, writes)?;
-    let (ended, output) = run(rt.alloc(), words, &mut source, &mut sink)?;
-    let read = source.read(&mut [0; 8]).is_err();
-    assert_eq!(rt;
-        (ended, output.as_str(), read),
-        (status, wanted, true),
-        "at {words:?}"
-    );
-    Ok(())
+/// The status, what is written, and whether the read behind the program's is the one that fails: the listed one, which
+/// is the first one if `reads` is 0.
+fn outcome(
+    alloc: Global,
+    words: &[&str],
+    writes: &[u64],
+    reads: u64,
+) -> Result<(u8, String, bool), Memory> {
+    let mut source = source(alloc, &[], 40, &[reads.saturating_add(1)])?;
+    let mut sink = sink(alloc, 40, writes)?;
+    let (status, output) = run(alloc, words, &mut source, &mut sink)?;
+    let fails = source.read(&mut [0; 8]).is_err();
+    Ok((status, output, fails))
 }
 
 #[test]
 fn words_are_the_name_and_serve(rt: HostRuntime) -> Result<(), Fail> {
     for row in ROWS {
-        assert_row(&rt, *row)?;
+        let (words, writes, status, wanted, reads) = *row;
+        let (ended, output, fails) = outcome(rt.alloc(), words, writes, reads)?;
+        assert_eq!(rt;
+            (ended, output.as_str(), fails),
+            (status, wanted, true),
+            "at {words:?}"
+        );
     }
     Ok(())
 }
