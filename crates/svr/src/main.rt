@@ -18,7 +18,7 @@ fn read_words(rt: &(impl Env + AllocGlobal)) -> io::Result<Vec<String>> {
 }
 
 fn main(rt: HostRuntime) -> ExitCode {
-    // Words that are no text have no reading, as no words have none.
+    // Words that can't be read have no reading, as no words have none.
     let words = match read_words(&rt) {
         Ok(words) => words,
         Err(_) => Vec::new(rt.alloc()),
