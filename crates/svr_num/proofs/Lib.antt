@@ -1,2 +1,4 @@
+pub mod Floor
+pub mod Parsed
 pub mod Ranked
 pub mod SortedUnique

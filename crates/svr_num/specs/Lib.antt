@@ -1,2 +1,4 @@
+pub mod Digits
 pub mod Hits
+pub mod Numbers
 pub mod Scores

@@ -1,5 +1,7 @@
-ghost use Rattle.std.specs.Prelude.{◌≡◌};
+ghost use Rattle.std.specs.Prelude.{◌≡◌, ◌<◌, ◌≤◌, ℕ, ◌^◌, Option, IfSome};
 ghost use Rattle.svr_num.specs.Scores.{clamped};
+
+use crate::hit::DocId;
 
 /// A document's score, from 0 to `SCORE_MAX`.
 pub type Score = u64;
@@ -18,4 +20,16 @@ pub fn clamp_score(n: i128) -> Score
     } else {
         n as u64
     }
+}
+
+/// What knows the scores of documents.
+pub trait Scores {
+    /// The score of the document with this id, if there is one.
+    ghost score_of: { Self → ℕ → Option ℕ };
+
+    /// The score of a document, `None` where there is no such document.
+    fn score(&self, id: DocId) -> Option<Score>
+        requires { id < 2 ^ 63 }
+        ensures value { result ≡ score_of self.now id }
+        ensures within { IfSome result (λ score. score ≤ SCORE_MAX) };
 }

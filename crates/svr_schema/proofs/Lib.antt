@@ -1,0 +1,12 @@
+pub mod Accepted
+pub mod Complete
+pub mod Composed
+pub mod Faults
+pub mod Floats
+pub mod Found
+pub mod Methods
+pub mod Names
+pub mod Plain
+pub mod Seen
+pub mod Steps
+pub mod Tabled

@@ -1,0 +1,13 @@
+use Rattle.std.proofs.Common.{◌≡◌, ◌∷◌, not, ap, rules}
+use Rattle.svr_schema.proofs.Names.{are_different-free, are_different-taken}
+use Rattle.svr_schema.proofs.named.+are_different.Goals as goal
+
+pub returns-then-not-is_taken : goal.returns-then-not-is_taken
+returns-then-not-is_taken g t c =
+    let is : c.args.items.now ≡ c.in-Some.first.now ∷ c.in-Some.rest.now = search rules in
+    are_different-free g.N.Named.name_of c.args.items.now c.in-Some.rest.now c.in-Some.first.now c.name.result.now c.is_taken.result _ is c.name.ensures c.is_taken.ensures (ap not c.if-not-is_taken.true) c.are_different.ensures
+
+pub returns-else-not-is_taken : goal.returns-else-not-is_taken
+returns-else-not-is_taken g t c =
+    let is : c.args.items.now ≡ c.in-Some.first.now ∷ c.in-Some.rest.now = search rules in
+    are_different-taken g.N.Named.name_of c.args.items.now c.in-Some.rest.now c.in-Some.first.now c.name.result.now c.is_taken.result is c.name.ensures c.is_taken.ensures (ap not c.if-not-is_taken.false)

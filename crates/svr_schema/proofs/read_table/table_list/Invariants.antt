@@ -1,0 +1,7 @@
+use Rattle.std.proofs.Common.{◌≡◌, map, take}
+use Rattle.serde_json.specs.View.{view}
+use Rattle.svr_schema.specs.Tables.{table_in}
+use Rattle.svr_schema.proofs.read_table.table_list.Given as goal
+
+abbrev pub invariant-loop-value : goal.invariant-loop-value
+invariant-loop-value l = l.tables.items ≡ map table_in (map view (take l.value-index l.values))
