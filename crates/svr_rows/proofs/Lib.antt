@@ -1,0 +1,6 @@
+pub mod ById
+pub mod Fits
+pub mod Tested
+pub mod Entries
+pub mod Sums
+pub mod Laws

@@ -1,0 +1,28 @@
+use Rattle.std.proofs.Common.{ap, ◌∙◌, arith}
+use Rattle.std.proofs.lemmas.List.{length-map}
+use Rattle.svr_rows.specs.Rows.{row_at, without_row}
+use Rattle.svr_rows.specs.Changes.{with_rows_of}
+use Rattle.svr_rows.specs.Kept.{kept_rows}
+use Rattle.svr_rows.proofs.Entries.{IsKept-remove_entry, lookup-kept, values_of-remove_entry}
+use Rattle.svr_rows.proofs.kept.KeptTable.remove.Goals as goal
+
+pub invariant_of-self : goal.invariant_of-self
+invariant_of-self c =
+    IsKept-remove_entry c.self.inside.kinds.items c.self.inside.rows.entries c.self.invariant c.remove.new.self.entries c.args.id
+    c.remove.ensures.entries c.remove.ensures.ordered
+    (omega (arith, c.remove.ensures.len, length-map c.self.inside.rows.entries (λ e. e.1), c.self.invariant.rows.few))
+
+pub returns-clause-changed : goal.returns-clause-changed
+returns-clause-changed c =
+    ap (λ es. kept_rows c.self.inside.kinds.items es) c.remove.ensures.entries
+    ∙ ap (with_rows_of (kept_rows c.self.inside.kinds.items c.self.inside.rows.entries))
+    (values_of-remove_entry c.self.inside.kinds.items c.self.inside.rows.entries c.self.invariant c.args.id)
+    ∙ ap (λ t. with_rows_of t (without_row t.rows c.args.id)) c.self.view_is
+
+pub returns-clause-before : goal.returns-clause-before
+returns-clause-before c =
+    c.remove.ensures.value ∙ lookup-kept c.self.inside.kinds.items c.self.inside.rows.entries c.self.invariant c.args.id
+    ∙ ap (λ t. row_at t.rows c.args.id) c.self.view_is
+
+pub returns-clause-lawful : goal.returns-clause-lawful
+returns-clause-lawful c = (invariant_of-self c).rows
