@@ -1,0 +1,5 @@
+pub mod Feeds
+pub mod Parts
+pub mod Skips
+pub mod Splits
+pub mod Stream

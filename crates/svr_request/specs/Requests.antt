@@ -1,0 +1,173 @@
+-- What a line asks for.
+use Rattle.std.specs.Prelude.{ℕ, ℤ, pos, ◌^◌, ◌&&◌, Bool, List, [], ◌∷◌, map, nat_lt, nat_le, codes, if◌then◌else◌, Option, Some, None, option_and_then, option_map, Result, Ok, Err, ok_or}
+use Rattle.std.specs.Str.{is_utf8, bytes_eq}
+use Rattle.serde_json.specs.Data.{Data, number, string, Items}
+use Rattle.serde_json.specs.Read.{read}
+use Rattle.serde_json.specs.View.{view}
+use Rattle.serde_json.specs.Find.{get, as_array, as_str, as_number, as_u64, as_i64, as_integer}
+use Rattle.svr_json.specs.Parts.{items_in, has_only, text_of}
+use Rattle.svr_num.specs.declared.mode.Mode.{Mode}
+use Rattle.svr_num.specs.declared.mode.Mode.TheVariants as mode
+use Rattle.svr_rows.specs.declared.row.Given.{Given}
+use Rattle.svr_rows.specs.declared.row.Given.TheVariants as given
+use Rattle.svr_request.specs.declared.refusal.Refusal.{Refusal}
+use Rattle.svr_request.specs.declared.refusal.Refusal.TheVariants.{NotJson, UnknownOp, BadShape}
+use Rattle.svr_request.specs.declared.request.Request.{Request}
+use Rattle.svr_request.specs.declared.request.Request.TheVariants as request
+
+-- a request, with a JSON value seen as its data
+pub data Wanted : Type 0 where
+  schema : Data → Wanted
+  insert : List ℕ → List Given → Wanted
+  update : List ℕ → List Given → Wanted
+  delete : List ℕ → ℕ → Wanted
+  search : List ℕ → Mode → ℤ → Wanted
+  merge : Wanted
+  merge_begin : Wanted
+  merge_slice : ℕ → Wanted
+  merge_publish : Wanted
+
+abbrev pub seen : Request → Wanted
+seen (request.Schema value) = schema (view value)
+seen (request.Insert table row) = insert table row
+seen (request.Update table row) = update table row
+seen (request.Delete table id) = delete table id
+seen (request.Search query m k) = search query m k
+seen request.Merge = merge
+seen request.MergeBegin = merge_begin
+seen (request.MergeSlice terms) = merge_slice terms
+seen request.MergePublish = merge_publish
+
+abbrev pub seen_or_refused : Result Request Refusal → Result Wanted Refusal
+seen_or_refused (Ok r) = Ok (seen r)
+seen_or_refused (Err why) = Err why
+
+infixl 10 ◌>>=◌
+abbrev pub ◌>>=◌ : {A B : Type 0} → Option A → (A → Option B) → Option B
+o >>= f = option_and_then f o
+
+-- x, if the test holds
+abbrev pub only_if : {A : Type 0} → Bool → A → Option A
+only_if b x = if b then Some x else None
+
+-- the value of a line, if it is JSON
+abbrev pub parsed : List ℕ → Option Data
+parsed line = if is_utf8 line then read line else None
+
+-- a whole number in i64 makes an int cell, a string a text cell, and nothing else makes one
+abbrev pub given_number : Option ℤ → Given
+given_number (Some n) = given.Int n
+given_number None = given.Other
+
+abbrev pub given_of : Data → Given
+given_of (number n) = given_number (as_i64 n)
+given_of (string t) = given.Text t
+given_of _ = given.Other
+
+-- what the values of an array give for a row
+abbrev pub row_of : Items → List Given
+row_of ds = map given_of (items_in ds)
+
+-- a whole number from 0 to 2^63 - 1
+abbrev pub id_in : Data → Option ℕ
+id_in d = do
+  n ← get (codes "id") d >>= as_number >>= as_u64
+  only_if (nat_lt n (2 ^ 63)) n
+
+abbrev pub mode_named : List ℕ → Option Mode
+mode_named s = if bytes_eq s (codes "all") then Some mode.All else (if bytes_eq s (codes "any") then Some mode.Any else None)
+
+-- `all` or `any`; all, where there is none
+abbrev pub mode_in : Option Data → Option Mode
+mode_in None = Some mode.All
+mode_in (Some d) = as_str d >>= mode_named
+
+-- a whole number in i64 or u64, or 10 where there is none
+abbrev pub k_in : Option Data → Option ℤ
+k_in None = Some (pos 10)
+k_in (Some d) = as_number d >>= as_integer
+
+-- a whole number from 1 to 1,000
+abbrev pub terms_in : Data → Option ℕ
+terms_in d = do
+  n ← get (codes "terms") d >>= as_number >>= as_u64
+  only_if (nat_le 1 n && nat_le n 1000) n
+
+-- each op has its members, and no other
+
+abbrev pub schema_in : Data → Option Wanted
+schema_in d = do
+  form ← only_if (has_only (codes "op" ∷ codes "schema" ∷ []) d) d
+  value ← get (codes "schema") form
+  Some (schema value)
+
+abbrev pub table_and_row : Data → Option (List ℕ × List Given)
+table_and_row d = do
+  table ← text_of (codes "table") d
+  values ← get (codes "row") d >>= as_array
+  Some (table, row_of values)
+
+-- the table and the row of an insert or an update
+abbrev pub table_and_row_in : Data → Option (List ℕ × List Given)
+table_and_row_in d = only_if (has_only (codes "op" ∷ codes "row" ∷ codes "table" ∷ []) d) d >>= table_and_row
+
+abbrev pub insert_in : Data → Option Wanted
+insert_in d = option_map (λ both. insert both.0 both.1) (table_and_row_in d)
+
+abbrev pub update_in : Data → Option Wanted
+update_in d = option_map (λ both. update both.0 both.1) (table_and_row_in d)
+
+abbrev pub delete_in : Data → Option Wanted
+delete_in d = do
+  form ← only_if (has_only (codes "id" ∷ codes "op" ∷ codes "table" ∷ []) d) d
+  id ← id_in form
+  table ← text_of (codes "table") form
+  Some (delete table id)
+
+abbrev pub search_in : Data → Option Wanted
+search_in d = do
+  form ← only_if (has_only (codes "k" ∷ codes "mode" ∷ codes "op" ∷ codes "query" ∷ []) d) d
+  m ← mode_in (get (codes "mode") form)
+  k ← k_in (get (codes "k") form)
+  query ← text_of (codes "query") form
+  Some (search query m k)
+
+-- an op that has no member of its own
+abbrev pub alone_in : Wanted → Data → Option Wanted
+alone_in wanted d = only_if (has_only (codes "op" ∷ []) d) wanted
+
+abbrev pub merge_slice_in : Data → Option Wanted
+merge_slice_in d = do
+  form ← only_if (has_only (codes "op" ∷ codes "terms" ∷ []) d) d
+  terms ← terms_in form
+  Some (merge_slice terms)
+
+-- the request of an object, by its op; None where the op is unknown
+abbrev pub wanted_by : List ℕ → Data → Option (Option Wanted)
+wanted_by op d =
+    if bytes_eq op (codes "schema") then Some (schema_in d)
+    else if bytes_eq op (codes "insert") then Some (insert_in d)
+    else if bytes_eq op (codes "update") then Some (update_in d)
+    else if bytes_eq op (codes "delete") then Some (delete_in d)
+    else if bytes_eq op (codes "search") then Some (search_in d)
+    else if bytes_eq op (codes "merge") then Some (alone_in merge d)
+    else if bytes_eq op (codes "merge-begin") then Some (alone_in merge_begin d)
+    else if bytes_eq op (codes "merge-slice") then Some (merge_slice_in d)
+    else if bytes_eq op (codes "merge-publish") then Some (alone_in merge_publish d)
+    else None
+
+abbrev pub shaped : Option (Option Wanted) → Result Wanted Refusal
+shaped None = Err UnknownOp
+shaped (Some wanted) = ok_or wanted BadShape
+
+-- what a value asks for, or why it is refused
+unfoldable pub asked_of : Data → Result Wanted Refusal
+asked_of d = shaped (text_of (codes "op") d >>= λ op. wanted_by op d)
+
+abbrev pub asked : Option Data → Result Wanted Refusal
+asked None = Err NotJson
+asked (Some d) = asked_of d
+
+-- what a line asks for, or why it is refused
+unfoldable pub request_of : List ℕ → Result Wanted Refusal
+request_of line = asked (parsed line)

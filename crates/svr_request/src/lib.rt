@@ -1,0 +1,17 @@
+//! What a line asks for, and the text of what is answered.
+#![tactic(auto)]
+
+mod buffer;
+mod members;
+mod print;
+mod read;
+mod refusal;
+mod reply;
+mod request;
+
+pub use buffer::ReplyBuf;
+pub use print::print_reply;
+pub use read::read_request;
+pub use refusal::Refusal;
+pub use reply::{Answer, Fault, Reply};
+pub use request::{HITS_BY_DEFAULT, Request};

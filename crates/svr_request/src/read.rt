@@ -1,0 +1,181 @@
+ghost use Rattle.std.specs.Prelude.{◌≡◌, IfOk, ok_or, option_map};
+ghost use Rattle.serde_json.specs.View.{view};
+ghost use Rattle.svr_request.specs.Requests.{alone_in, asked_of, delete_in, id_in, insert_in, k_in, merge_slice_in, mode_in, request_of, schema_in, search_in, seen, seen_or_refused, table_and_row_in, terms_in, update_in};
+
+use crate::members::{take_member, take_table_and_row, take_text};
+use crate::refusal::Refusal;
+use crate::request::{HITS_BY_DEFAULT, Request};
+use serde_json::Value;
+use std::alloc::Global;
+use svr_edge::{Items, Memory, Text};
+use svr_json::{has_only, text_at};
+use svr_num::{DocId, Mode};
+use svr_rows::Given;
+
+/// The ids of rows are below this number.
+const ID_END: u64 = 1 << 63;
+
+/// The most terms of one step of a merge.
+const MOST_TERMS: u64 = 1_000;
+
+fn read_id(value: &Value) -> Option<DocId>
+    ensures { result ≡ id_in (view value.now) }
+{
+    match value.get("id")?.as_u64() {
+        Some(id) if id < ID_END => Some(id),
+        _ => None,
+    }
+}
+
+fn read_terms(value: &Value) -> Option<u32>
+    ensures { result ≡ terms_in (view value.now) }
+{
+    match value.get("terms")?.as_u64() {
+        Some(terms) if 1 <= terms && terms <= MOST_TERMS => Some(terms as u32),
+        _ => None,
+    }
+}
+
+fn read_mode(value: Option<&Value>) -> Option<Mode>
+    ensures { result ≡ mode_in (option_map (λ v. view v.now) value.entry) }
+{
+    let Some(value) = value else {
+        return Some(Mode::All);
+    };
+    match value.as_str()? {
+        "all" => Some(Mode::All),
+        "any" => Some(Mode::Any),
+        _ => None,
+    }
+}
+
+fn read_k(value: Option<&Value>) -> Option<i128>
+    ensures { result ≡ k_in (option_map (λ v. view v.now) value.entry) }
+{
+    let Some(value) = value else {
+        return Some(HITS_BY_DEFAULT);
+    };
+    if let Some(k) = value.as_u64() {
+        return Some(i128::from(k));
+    }
+    value.as_i64().map(i128::from)
+}
+
+fn schema_request(value: Value) -> Option<Request>
+    ensures { option_map seen result ≡ schema_in (view value) }
+{
+    if !has_only(&value, &["op", "schema"]) {
+        return None;
+    }
+    let schema = take_member(value, "schema")?;
+    Some(Request::Schema(schema))
+}
+
+/// The table and the row of an `insert` or an `update`.
+fn table_and_row(alloc: Global, value: Value) -> Result<Option<(Text, Items<Given>)>, Memory>
+    ensures { IfOk result (λ both. both ≡ table_and_row_in (view value)) }
+{
+    if !has_only(&value, &["op", "row", "table"]) {
+        return Ok(None);
+    }
+    take_table_and_row(alloc, value)
+}
+
+fn insert_request(alloc: Global, value: Value) -> Result<Option<Request>, Memory>
+    ensures { IfOk result (λ request. option_map seen request ≡ insert_in (view value)) }
+{
+    let both = table_and_row(alloc, value)?;
+    Ok(both.map(|(table, row)| Request::Insert { table, row }))
+}
+
+fn update_request(alloc: Global, value: Value) -> Result<Option<Request>, Memory>
+    ensures { IfOk result (λ request. option_map seen request ≡ update_in (view value)) }
+{
+    let both = table_and_row(alloc, value)?;
+    Ok(both.map(|(table, row)| Request::Update { table, row }))
+}
+
+fn delete_request(value: Value) -> Option<Request>
+    ensures { option_map seen result ≡ delete_in (view value) }
+{
+    if !has_only(&value, &["id", "op", "table"]) {
+        return None;
+    }
+    let id = read_id(&value)?;
+    let table = take_text(value, "table")?;
+    Some(Request::Delete { table, id })
+}
+
+fn search_request(value: Value) -> Option<Request>
+    ensures { option_map seen result ≡ search_in (view value) }
+{
+    if !has_only(&value, &["k", "mode", "op", "query"]) {
+        return None;
+    }
+    let mode = read_mode(value.get("mode"))?;
+    let k = read_k(value.get("k"))?;
+    let query = take_text(value, "query")?;
+    Some(Request::Search { query, mode, k })
+}
+
+/// The request of an op that has no member of its own.
+fn alone(value: &Value, request: Request) -> Option<Request>
+    ensures { option_map seen result ≡ alone_in (seen request) (view value.now) }
+{
+    if has_only(value, &["op"]) {
+        Some(request)
+    } else {
+        None
+    }
+}
+
+fn merge_slice_request(value: &Value) -> Option<Request>
+    ensures { option_map seen result ≡ merge_slice_in (view value.now) }
+{
+    if !has_only(value, &["op", "terms"]) {
+        return None;
+    }
+    let terms = read_terms(value)?;
+    Some(Request::MergeSlice { terms })
+}
+
+/// A request whose members are right, or `BadShape`.
+fn shaped(request: Option<Request>) -> Result<Request, Refusal>
+    ensures { seen_or_refused result ≡ ok_or (option_map seen request) Refusal.BadShape }
+{
+    request.ok_or(Refusal::BadShape)
+}
+
+#[tactic(auto, unfolding(crate::specs::Requests::asked_of))]
+fn request_in(alloc: Global, value: Value) -> Result<Result<Request, Refusal>, Memory>
+    ensures { IfOk result (λ asked. seen_or_refused asked ≡ asked_of (view value)) }
+{
+    match text_at(&value, "op") {
+        Some("schema") => Ok(shaped(schema_request(value))),
+        Some("insert") => Ok(shaped(insert_request(alloc, value)?)),
+        Some("update") => Ok(shaped(update_request(alloc, value)?)),
+        Some("delete") => Ok(shaped(delete_request(value))),
+        Some("search") => Ok(shaped(search_request(value))),
+        Some("merge") => Ok(shaped(alone(&value, Request::Merge))),
+        Some("merge-begin") => Ok(shaped(alone(&value, Request::MergeBegin))),
+        Some("merge-slice") => Ok(shaped(merge_slice_request(&value))),
+        Some("merge-publish") => Ok(shaped(alone(&value, Request::MergePublish))),
+        _ => Ok(Err(Refusal::UnknownOp)),
+    }
+}
+
+/// Reads a line as a request, or says why it is refused: `NotJson`, `UnknownOp` or `BadShape`.
+pub fn read_request(alloc: Global, line: &[u8]) -> Result<Result<Request, Refusal>, Memory>
+    ensures { IfOk result (λ asked. seen_or_refused asked ≡ request_of line.now) }
+{
+    match Value::from_slice(alloc, line) {
+        Ok(value) => request_in(alloc, value),
+        Err(error) => {
+            if error.is_memory() {
+                Err(Memory)
+            } else {
+                Ok(Err(Refusal::NotJson))
+            }
+        }
+    }
+}

@@ -1,0 +1,28 @@
+use serde_json::Value;
+use svr_edge::{Items, Text};
+use svr_num::{DocId, Mode};
+use svr_rows::Given;
+
+/// How many hits a search asks for that doesn't say it.
+pub const HITS_BY_DEFAULT: i128 = 10;
+
+/// What a line asks for. Tables go by their names.
+#[derive(Debug, Drop)]
+pub enum Request {
+    /// To take a value as the schema.
+    Schema(Value),
+    /// To add a row.
+    Insert { table: Text, row: Items<Given> },
+    /// To put a row in place of the one that has its id.
+    Update { table: Text, row: Items<Given> },
+    /// To take out the row with an id.
+    Delete { table: Text, id: DocId },
+    /// To find the best `k` documents whose text has the query's terms.
+    Search { query: Text, mode: Mode, k: i128 },
+    /// To merge the lists of all terms.
+    Merge,
+    MergeBegin,
+    /// To go on with a merge by at most so many terms, 1 to 1,000.
+    MergeSlice { terms: u32 },
+    MergePublish,
+}
