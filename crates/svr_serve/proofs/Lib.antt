@@ -1,6 +1,5 @@
 pub mod Endings
-pub mod Feeds
-pub mod Requests
-pub mod Rows
+pub mod Pieces
 pub mod Runs
-pub mod Stream
+pub mod Stops
+pub mod Turns

@@ -1,12 +1,3 @@
-pub mod Answers
-pub mod Buffer
-pub mod Cells
-pub mod Lines
+pub mod Input
 pub mod Program
-pub mod Reads
-pub mod Replies
-pub mod Requests
-pub mod Rows
-pub mod Run
 pub mod Serving
-pub mod Table

@@ -1,10 +1,14 @@
 -- What the program does, by the status that it ends with.
-use Rattle.std.specs.Prelude.{◌≡◌, ◌⊎◌, ℕ, ◌==◌, Bool, false, List, [], ◌∷◌, ◌++◌, codes, if◌then◌else◌, Option, IfSome}
+use Rattle.std.specs.Prelude.{◌≡◌, ◌⊎◌, ◌<◌, ℕ, ◌==◌, Bool, false, List, [], ◌∷◌, ◌++◌, length, codes, if◌then◌else◌, Option, IfSome, Result}
 use Rattle.std.specs.Str.{bytes_eq}
-use Rattle.std.specs.Io.KnownBytes.{Appends, IsAtEnd}
+use Rattle.std.specs.Io.KnownBytes.{Appends, Consumes, IsAtEnd}
 use Rattle.svr_edge.specs.Causes.{Rose}
-use Rattle.svr_serve.specs.declared.reply.Reply.{Reply}
-use Rattle.svr_serve.specs.Run.{AnswersAll, AnswersFirst, texts}
+use Rattle.svr_core.specs.Run.{IsRun, texts}
+use Rattle.svr_core.specs.State.{empty}
+use Rattle.svr_request.specs.declared.refusal.Refusal.{Refusal}
+use Rattle.svr_request.specs.declared.reply.Reply.{Reply}
+use Rattle.svr_request.specs.Requests.{Wanted}
+use Rattle.svr_serve.specs.Input.{requests_of, whole_requests}
 
 -- the words, the program's name first, ask to serve
 abbrev pub asks_to_serve : List (List ℕ) → Bool
@@ -23,12 +27,30 @@ fault_line status =
 abbrev pub IsPrefix : List ℕ → List ℕ → Type 0
 IsPrefix front whole = (rest : List ℕ) × (whole ≡ front ++ rest)
 
--- the input was read to its end, and what was written are the replies to all its lines
+-- so many bytes were taken from those that are known to be left; or fewer
+abbrev pub Took : ℕ → Option (List ℕ) → Option (List ℕ) → Type 0
+Took count before after = (bytes : List ℕ) × Consumes before after bytes × (length bytes ≡ count)
+
+abbrev pub TookLess : ℕ → Option (List ℕ) → Option (List ℕ) → Type 0
+TookLess count before after = (bytes : List ℕ) × Consumes before after bytes × (length bytes < count)
+
+-- these are the replies to all requests of the input, from nothing
+abbrev pub AnswersAll : List ℕ → List Reply → Type 0
+AnswersAll input replies = IsRun empty (requests_of input) replies
+
+-- these are the replies to the first requests of the input, from nothing
+pub record AnswersFirst (input : List ℕ) (replies : List Reply) : Type 0 where
+  pub requests : List (Result Wanted Refusal)
+  pub others : List (Result Wanted Refusal)
+  pub first : requests_of input ≡ requests ++ others
+  pub run : IsRun empty requests replies
+
+-- the input was read to its end, and what was written are the replies to all its requests
 pub record Served (left rest taken now : Option (List ℕ)) : Type 0 where
   pub end : IsAtEnd rest
   pub replies : IfSome left (λ input. (replies : List Reply) × AnswersAll input replies × Appends taken now (texts replies))
 
--- what was written is the beginning of the replies to the first lines of the input
+-- what was written is the beginning of the replies to the first requests of the input
 abbrev pub WritesPart : Option (List ℕ) → Option (List ℕ) → Option (List ℕ) → Type 0
 WritesPart left taken now = IfSome left (λ input.
     (replies : List Reply) × (written : List ℕ) × AnswersFirst input replies × IsPrefix written (texts replies) × Appends taken now written)
@@ -38,10 +60,18 @@ pub record WritesFault (status before after : ℕ) (line : List ℕ) : Type 0 wh
   pub part : IsPrefix line (fault_line status)
   pub cause : (line ≡ fault_line status) ⊎ Rose before after
 
--- what was written are the replies to the first lines of the input, and then the fault line
+-- what was written are the replies to the first requests of the input, and then the fault line
 abbrev pub Stopped : ℕ → ℕ → ℕ → Option (List ℕ) → Option (List ℕ) → Option (List ℕ) → Type 0
 Stopped status before after left taken now = IfSome left (λ input.
-    (replies : List Reply) × (line : List ℕ) × AnswersFirst input replies × WritesFault status before after line × Appends taken now (texts replies ++ line))
+    (replies : List Reply) × (line : List ℕ) × AnswersFirst input replies × WritesFault status before after line
+    × Appends taken now (texts replies ++ line))
+
+-- what was written are the replies to all requests whose line is ended by LF in the bytes that were taken, and then the fault line
+abbrev pub StoppedBehind : ℕ → ℕ → ℕ → Option (List ℕ) → Option (List ℕ) → Option (List ℕ) → Option (List ℕ) → Type 0
+StoppedBehind status before after left rest taken now =
+    (bytes : List ℕ) × (replies : List Reply) × (line : List ℕ) × Consumes left rest bytes
+    × IsRun empty (whole_requests bytes) replies × WritesFault status before after line
+    × Appends taken now (texts replies ++ line)
 
 -- nothing but the fault line was written
 abbrev pub WritesFaultAlone : ℕ → ℕ → ℕ → Option (List ℕ) → Option (List ℕ) → Type 0

@@ -1,11 +1,10 @@
-//! Tests of the program's top call over a source and a sink in memory, and of the lines, the scores and the order of
-//! hits below it.
+//! Tests of the program's top call over a source and a sink in memory, and of the scores and the order of hits below it.
 #![tactic(auto)]
 
 #[cfg(test)]
-mod faults;
+mod changes;
 #[cfg(test)]
-mod lines;
+mod faults;
 #[cfg(test)]
 mod long_lines;
 #[cfg(test)]
@@ -17,6 +16,10 @@ mod rows;
 #[cfg(test)]
 mod runs;
 #[cfg(test)]
+mod schemas;
+#[cfg(test)]
 mod searches;
+#[cfg(test)]
+mod session;
 #[cfg(test)]
 mod words;

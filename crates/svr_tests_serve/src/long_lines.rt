@@ -1,74 +1,105 @@
-use crate::runs::{assert_served, filled};
+use crate::runs::assert_served;
+use crate::schemas::DOCS;
+use std::alloc::{AllocError, Global};
 use std::process::Abort;
 use std::test::Fail;
 use svr_edge::Memory;
 
-/// A line of 52 bytes.
-const INSERT: &str = r#"{"op":"insert","table":"docs","row":[1,5,"red car"]}"#;
+/// A line of 46 bytes.
+const INSERT: &str = r#"{"op":"insert","table":"docs","row":[1,5,"x"]}"#;
 
-/// The lines behind the one that is tested.
-const BEHIND: &str = r#"
-{"op":"insert","table":"docs","row":[2,9,"blue car"]}
-x
-"#;
+/// Lines up to a text: of a new row, of one that is there, of an update of none, and of one with a bad score.
+const NEW: &str = r#"{"op":"insert","table":"docs","row":[1,5,""#;
 
-/// The replies where the line is an insert.
-const ACCEPTED: &str = r#"{"ok":1}
-{"ok":2}
-{"error":"bad-shape"}
-"#;
+const AGAIN: &str = r#"{"op":"insert","table":"docs","row":[1,5,"x"]}
+{"op":"insert","table":"docs","row":[1,5,""#;
 
-/// The replies where the line is refused.
-const REFUSED: &str = r#"{"error":"bad-shape"}
-{"ok":1}
-{"error":"bad-shape"}
-"#;
+const ABSENT: &str = r#"{"op":"update","table":"docs","row":[1,5,""#;
 
-/// The reply where a refused line is the last one, with no line feed.
-const ALONE: &str = r#"{"error":"bad-shape"}
-"#;
+const BAD: &str = r#"{"op":"insert","table":"docs","row":[1,"5",""#;
 
-/// The front of a line, a piece that stands `count` times behind it, what stands behind the line, the step, and the
-/// replies.
+/// A line up to a query.
+const QUERY: &str = r#"{"op":"search","query":""#;
+
+/// What stands behind the tested line, and the replies to it where no row was taken, and where one was.
+const BEHIND: &str = "\n{\"op\":\"search\",\"query\":\"x\",\"mode\":\"all\",\"k\":1}\n";
+
+const NONE: &str = "{\"hits\":[],\"groups\":0}\n";
+
+const ONE: &str = "{\"hits\":[[1,5]],\"groups\":1}\n";
+
+const ACCEPTED: &str = "{\"ok\":2}\n";
+
+const LONG_LINE: &str = "{\"error\":\"line-too-long\"}\n";
+
+const LONG_TEXT: &str = "{\"error\":\"text-too-long\"}\n";
+
+const ACCEPTED_THEN_LONG_TEXT: &str = "{\"ok\":2}\n{\"error\":\"text-too-long\"}\n";
+
+const BAD_ROW: &str = "{\"error\":\"bad-row\",\"column\":1}\n";
+
+const NOT_JSON: &str = "{\"error\":\"not-json\"}\n";
+
+const NO_TERMS: &str = "{\"error\":\"no-terms\"}\n";
+
+/// The front of a line, a piece that stands `count` times behind it, the end of the line, and the replies to it and to
+/// what stands behind it.
 type Row = (
     &'static str,
     &'static str,
     usize,
     &'static str,
-    u32,
-    &'static str,
+    [&'static str; 2],
 );
 
-/// A line has 1,048,576 bytes at most.
+const WORKED: Row = ("", "x", 1_048_577, "", [LONG_LINE, NONE]);
+
+/// A line has 1,048,576 bytes at most, a text 65,536 and a term 255.
 const ROWS: &[Row] = &[
-    (INSERT, " ", 20_000, BEHIND, 1, ACCEPTED),
-    (INSERT, " ", 1_048_576 - 52, BEHIND, 4_096, ACCEPTED),
-    (INSERT, " ", 1_048_576 - 52, BEHIND, 1_000_000, ACCEPTED),
-    (INSERT, " ", 1_048_576 - 52, BEHIND, 4_000_000, ACCEPTED),
-    (INSERT, " ", 1_048_577 - 52, BEHIND, 4_096, REFUSED),
-    (INSERT, " ", 1_048_577 - 52, BEHIND, 1_000_000, REFUSED),
-    (INSERT, " ", 1_048_577 - 52, BEHIND, 4_000_000, REFUSED),
-    ("", "x", 1_048_577, BEHIND, 4_096, REFUSED),
-    ("", "x", 1_048_577, BEHIND, 1_000_000, REFUSED),
-    ("", "x", 1_048_577, BEHIND, 4_000_000, REFUSED),
-    ("", "x", 3_000_000, BEHIND, 4_096, REFUSED),
-    ("", "x", 3_000_000, BEHIND, 1_000_000, REFUSED),
-    ("", "x", 3_000_000, BEHIND, 4_000_000, REFUSED),
-    ("", "x", 3_000_000, "", 4_096, ALONE),
-    ("", "x", 3_000_000, "", 4_000_000, ALONE),
+    WORKED,
+    ("", "x", 1_048_576, "", [NOT_JSON, NONE]),
+    ("", " ", 1_048_576, "", ["", NONE]),
+    ("", " ", 1_048_577, "", [LONG_LINE, NONE]),
+    (INSERT, " ", 1_048_576 - 46, "", [ACCEPTED, ONE]),
+    (INSERT, " ", 1_048_577 - 46, "", [LONG_LINE, NONE]),
+    (NEW, "x ", 32_768, "\"]}", [ACCEPTED, ONE]),
+    (NEW, "é", 32_769, "\"]}", [LONG_TEXT, NONE]),
+    (ABSENT, "\\n", 65_537, "\"]}", [LONG_TEXT, NONE]),
+    (AGAIN, "a", 65_537, "\"]}", [ACCEPTED_THEN_LONG_TEXT, ONE]),
+    (BAD, "a", 65_537, "\"]}", [BAD_ROW, NONE]),
+    (QUERY, "x ", 50_000, "\"}", [NONE, NONE]),
+    (QUERY, "x", 256, "\"}", [NO_TERMS, NONE]),
 ];
 
-fn assert_row(rt: &(impl Abort + AllocGlobal), row: Row) -> Result<(), Memory> {
-    let (front, piece, count, back, step, wanted) = row;
-    assert!(rt; step > 0);
-    let input = filled(rt.alloc(), front, piece, "", count, back)?;
-    assert_served(rt, input.as_bytes(), step, wanted)
+/// The schema, the line and what stands behind it.
+fn filled(alloc: Global, row: Row) -> Result<String, AllocError> {
+    let (front, piece, count, end, _) = row;
+    let mut text = format!(in alloc; "{DOCS}\n{front}")?;
+    for _ in 0..count {
+        text.push_str(piece)?;
+    }
+    text.push_str(end)?;
+    text.push_str(BEHIND)?;
+    Ok(text)
+}
+
+/// Asserts that a row is answered so in each of some steps.
+fn assert_row(rt: &(impl Abort + AllocGlobal), row: Row, steps: &[u32]) -> Result<(), Memory> {
+    let input = filled(rt.alloc(), row)?;
+    let [reply, behind] = row.4;
+    let wanted = format!(in rt.alloc(); "{{\"ok\":1}}\n{reply}{behind}")?;
+    for step in steps {
+        assert!(rt; *step > 0);
+        assert_served(rt, input.as_bytes(), *step, wanted.as_str())?;
+    }
+    Ok(())
 }
 
 #[test]
-fn long_lines_are_taken_or_dropped(rt: HostRuntime) -> Result<(), Fail> {
+fn long_lines_and_texts_are_taken_or_refused(rt: HostRuntime) -> Result<(), Fail> {
     for row in ROWS {
-        assert_row(&rt, *row)?;
+        assert_row(&rt, *row, &[4_096, 4_000_000])?;
     }
+    assert_row(&rt, WORKED, &[1])?;
     Ok(())
 }

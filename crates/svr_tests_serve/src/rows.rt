@@ -1,50 +1,54 @@
-use crate::runs::{THREE_LINES, THREE_REPLIES, assert_served};
+use crate::runs::assert_transcript;
+use crate::schemas::{DOCS, HALVES};
 use std::test::Fail;
 
-/// An id twice, an `op` that isn't known, and a line that isn't JSON.
-const REFUSED: (&str, &str) = (
-    r#"{"op":"insert","table":"docs","row":[1,5,"red car"]}
-{"op":"insert","table":"docs","row":[1,5,"red car"]}
-{"op":"merge"}
-[1
-"#,
-    r#"{"ok":1}
-{"error":"key-exists"}
-{"error":"unknown-op"}
-{"error":"bad-shape"}
-"#,
-);
+/// No schema is set, and a line of blanks has no reply.
+const NO_SCHEMA: &str = r#"{"op":"search","query":"a","mode":"all","k":1} => {"error":"no-schema"}
+{} => {"error":"unknown-op"}
+[1 => {"error":"not-json"}
+  
+{"op":"search"} => {"error":"bad-shape"}"#;
 
-/// Inserts of the form that is wanted, however they are written: the ends of the ranges, blanks, the order of the
-/// members, escapes, and members that stand twice, of which the last one counts. The last line has no line feed.
-const ACCEPTED: (&str, &str) = (
-    r#"{"op":"insert","table":"docs","row":[0,0,""]}
-{"op":"insert","table":"docs","row":[9223372036854775807,9223372036854775807,"red car"]}
-{"op":"insert","table":"docs","row":[3,-9223372036854775808,"red car"]}
- { "op" : "insert" , "table" : "docs" , "row" : [ 5 , -1 , " ,;" ] } 
-{"row":[6,5,"red car"],"table":"docs","op":"insert"}
-{"\u006fp":"ins\u0065rt","table":"d\u006fcs","row":[7,5,"\ud83d\ude97 \" \\ \/ \b \f \n \r \t \u0000"]}
-{"op":"merge","op":"insert","table":"films","table":"docs","row":5,"row":[8,5,"red car"]}
-{"op":"insert","table":"docs","row":[9,5,"Straße 日本 🚗"]}
-{"op":"insert","table":"docs","row":[10,5,"a b c d e f g h i j k l m n o p q"]}"#,
-    r#"{"ok":1}
-{"ok":2}
-{"ok":3}
-{"ok":4}
-{"ok":5}
-{"ok":6}
-{"ok":7}
-{"ok":8}
-{"ok":9}
-"#,
-);
+/// A row is found, and one refusal of each kind that a first row can meet.
+const FIRST_ROW: &str = r#"SCHEMA => {"ok":1}
+{"op":"insert","table":"docs","row":[1,5,"red car"]} => {"ok":2}
+{"op":"search","query":"car","mode":"all","k":10} => {"hits":[[1,5]],"groups":1}
+{"op":"insert","table":"docs","row":[1,5,"red car"]} => {"error":"key-exists"}
+{"op":"delete","table":"docs","id":9} => {"error":"no-row"}
+{"op":"insert","table":"docs","row":[2,"x","y"]} => {"error":"bad-row","column":1}
+{"op":"insert","table":"films","row":[2]} => {"error":"no-table"}
+SCHEMA => {"error":"schema-set"}"#;
+
+/// A score is floored and clamped.
+const CLAMPED: &str = r#"SCHEMA => {"ok":1}
+{"op":"insert","table":"docs","row":[1,-1,"a"]} => {"ok":2}
+{"op":"insert","table":"docs","row":[2,9223372036854775807,"a"]} => {"ok":3}
+{"op":"search","query":"a","mode":"all","k":10} => {"hits":[[2,281474976710655],[1,0]],"groups":1}"#;
+
+/// Case folding, and the number of terms.
+const TERMS: &str = r#"SCHEMA => {"ok":1}
+{"op":"insert","table":"docs","row":[1,5,"Straße"]} => {"ok":2}
+{"op":"search","query":"STRASSE straße","mode":"all","k":10} => {"hits":[[1,5]],"groups":1}
+{"op":"search","query":" ,;","mode":"all","k":10} => {"error":"no-terms"}
+{"op":"search","query":"a b c d e f g h i j k l m n o p q","mode":"all","k":10} => {"error":"too-many-terms"}"#;
+
+/// A divisor of 0, and a first column of another name.
+const BAD_SCHEMAS: &str =
+    r#"{"op":"schema","schema":{"tables":[{"name":"docs","columns":[{"name":"id","type":"int"},{"name":"score","type":"int"},{"name":"text","type":"text"}]}],"text":{"table":"docs","column":"text"},"components":[{"kind":"own","column":"score","weight":1}],"divisor":0,"method":{"kind":"id"}}} => {"error":"bad-schema","rule":13}
+{"op":"schema","schema":{"tables":[{"name":"docs","columns":[{"name":"key","type":"int"},{"name":"score","type":"int"},{"name":"text","type":"text"}]}],"text":{"table":"docs","column":"text"},"components":[{"kind":"own","column":"score","weight":1}],"divisor":1,"method":{"kind":"id"}}} => {"error":"bad-schema","rule":7}"#;
 
 #[test]
-fn replies_are_the_same_in_all_steps(rt: HostRuntime) -> Result<(), Fail> {
-    for (input, wanted) in [(THREE_LINES, THREE_REPLIES), REFUSED, ACCEPTED, ("", "")] {
-        assert_served(&rt, input.as_bytes(), 1, wanted)?;
-        assert_served(&rt, input.as_bytes(), 7, wanted)?;
-        assert_served(&rt, input.as_bytes(), 1_000_000, wanted)?;
+fn rows_are_answered_as_worked_out(rt: HostRuntime) -> Result<(), Fail> {
+    let rows = [
+        (DOCS, ""),
+        (DOCS, NO_SCHEMA),
+        (DOCS, FIRST_ROW),
+        (HALVES, CLAMPED),
+        (DOCS, TERMS),
+        (DOCS, BAD_SCHEMAS),
+    ];
+    for (schema, transcript) in rows {
+        assert_transcript(&rt, schema, transcript)?;
     }
     Ok(())
 }

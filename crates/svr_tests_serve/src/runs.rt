@@ -6,18 +6,6 @@ use svr_edge::Memory;
 use svr_fakes::{MemSink, MemSource};
 use svr_serve::svr;
 
-/// Two inserts and a search, of 53, 54 and 36 bytes.
-pub const THREE_LINES: &str = r#"{"op":"insert","table":"docs","row":[1,5,"red car"]}
-{"op":"insert","table":"docs","row":[2,9,"blue car"]}
-{"op":"search","query":"car","k":1}
-"#;
-
-/// The replies to them, of 9, 9 and 28 bytes.
-pub const THREE_REPLIES: &str = r#"{"ok":1}
-{"ok":2}
-{"hits":[[2,9]],"groups":1}
-"#;
-
 /// A source that gives so many bytes a read, and of which the listed reads fail.
 pub fn source(alloc: Global, input: &[u8], step: u32, fail: &[u64]) -> Result<MemSource, AllocError>
     requires { 0 < step }
@@ -52,15 +40,6 @@ pub fn run(
     Ok((status, String::from_utf8_lossy(alloc, sink.taken())?))
 }
 
-/// Serves an input in steps of so many bytes.
-pub fn serve(alloc: Global, input: &[u8], step: u32) -> Result<(u8, String), Memory>
-    requires { 0 < step }
-{
-    let mut source = source(alloc, input, step, &[])?;
-    let mut sink = sink(alloc, step, &[])?;
-    run(alloc, &["svr", "serve"], &mut source, &mut sink)
-}
-
 /// Asserts that all of an input is answered so in steps of so many bytes.
 pub fn assert_served(
     rt: &(impl Abort + AllocGlobal),
@@ -70,7 +49,9 @@ pub fn assert_served(
 ) -> Result<(), Memory>
     requires { 0 < step }
 {
-    let (status, output) = serve(rt.alloc(), input, step)?;
+    let mut source = source(rt.alloc(), input, step, &[])?;
+    let mut sink = sink(rt.alloc(), step, &[])?;
+    let (status, output) = run(rt.alloc(), &["svr", "serve"], &mut source, &mut sink)?;
     assert_eq!(rt;
         (status, output.as_str()),
         (0, wanted),
@@ -79,25 +60,36 @@ pub fn assert_served(
     Ok(())
 }
 
-fn push_often(text: &mut String, piece: &str, count: usize) -> Result<(), AllocError> {
-    for _ in 0..count {
-        text.push_str(piece)?;
-    }
-    Ok(())
+fn push_line(text: &mut String, line: &str) -> Result<(), AllocError> {
+    text.push_str(line)?;
+    text.push('\n')
 }
 
-/// A text of `front`, of `open` so many times, of `close` as often, and of `back`.
-pub fn filled(
-    alloc: Global,
-    front: &str,
-    open: &str,
-    close: &str,
-    count: usize,
-    back: &str,
-) -> Result<String, AllocError> {
-    let mut text = String::from_str(alloc, front)?;
-    push_often(&mut text, open, count)?;
-    push_often(&mut text, close, count)?;
-    text.push_str(back)?;
-    Ok(text)
+/// The input of a transcript, and the output that it wants. Each line is a request, with its reply behind an arrow if it
+/// has one, and `SCHEMA` stands for the schema.
+fn parts(alloc: Global, schema: &str, transcript: &str) -> Result<(String, String), AllocError> {
+    let mut input = String::new(alloc);
+    let mut output = String::new(alloc);
+    for line in transcript.lines() {
+        let (request, reply) = line.split_once(" => ").unwrap_or((line, ""));
+        push_line(
+            &mut input,
+            if request == "SCHEMA" { schema } else { request },
+        )?;
+        if !reply.is_empty() {
+            push_line(&mut output, reply)?;
+        }
+    }
+    Ok((input, output))
+}
+
+/// Asserts that the requests of a transcript are answered as it says, given in pieces of a byte and as one piece.
+pub fn assert_transcript(
+    rt: &(impl Abort + AllocGlobal),
+    schema: &str,
+    transcript: &str,
+) -> Result<(), Memory> {
+    let (input, wanted) = parts(rt.alloc(), schema, transcript)?;
+    assert_served(rt, input.as_bytes(), 1, wanted.as_str())?;
+    assert_served(rt, input.as_bytes(), 1_000_000, wanted.as_str())
 }

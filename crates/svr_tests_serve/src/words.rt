@@ -16,19 +16,15 @@ type Row = (
 
 const ROWS: &[Row] = &[
     (&["svr", "serve"], &[], 0, "", 1),
-    (&["", "serve"], &[], 0, "", 1),
-    (&["serve", "serve"], &[], 0, "", 1),
     (&[], &[], 2, FAULT, 0),
     (&["svr"], &[], 2, FAULT, 0),
-    (&["serve"], &[], 2, FAULT, 0),
     (&["svr", "sing"], &[], 2, FAULT, 0),
-    (&["svr", "Serve"], &[], 2, FAULT, 0),
     (&["svr", "serve "], &[], 2, FAULT, 0),
-    (&["svr", ""], &[], 2, FAULT, 0),
-    (&["serve", "svr"], &[], 2, FAULT, 0),
     (&["svr", "serve", "5"], &[], 2, FAULT, 0),
-    (&["svr", "svr", "serve"], &[], 2, FAULT, 0),
+    (&["svr", "serve", "--cache", "16"], &[], 2, FAULT, 0),
+    (&["svr", "gen"], &[], 2, FAULT, 0),
     (&["svr", "sing"], &[1], 2, "", 0),
+    (&["svr", "serve"], &[1], 0, "", 1),
 ];
 
 /// The status, what is written, and whether the read behind the program's is the one that fails: the listed one, which

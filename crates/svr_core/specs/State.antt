@@ -1,0 +1,21 @@
+-- What is served: a schema with the rows of its tables, once it is set, and how many changes were accepted.
+use Rattle.std.specs.Prelude.{ℕ, List, Option, None}
+use Rattle.svr_rows.specs.declared.row.Row.{Row}
+use Rattle.svr_rows.specs.Rows.{TableRows, rows_in}
+use Rattle.svr_schema.specs.declared.schema.Schema.{Schema}
+
+pub record Catalog : Type 0 where
+  pub schema : Schema
+  pub tables : List TableRows
+
+pub record State : Type 0 where
+  pub catalog : Option Catalog
+  pub changes : ℕ
+
+-- nothing was accepted
+abbrev pub empty : State
+empty = record { catalog = None; changes = 0 }
+
+-- the documents: the rows of the table that has the text column
+abbrev pub documents_in : Catalog → List Row
+documents_in c = rows_in c.tables c.schema.text_table

@@ -1,0 +1,43 @@
+-- What the parts of the program answer, beside the outcome of a request.
+use Rattle.std.specs.Prelude.{◌≡◌, ◌⊎◌, ◌≤◌, ℕ, length, Option, Some}
+use Rattle.svr_request.specs.declared.refusal.Refusal.{Refusal}
+use Rattle.svr_request.specs.declared.refusal.Refusal.TheVariants as refusal
+use Rattle.svr_schema.specs.declared.error.SchemaError.{SchemaError}
+use Rattle.svr_schema.specs.declared.error.SchemaError.TheVariants as error
+use Rattle.svr_tokens.specs.declared.query.QueryRefusal.{QueryRefusal}
+use Rattle.svr_tokens.specs.declared.query.QueryRefusal.TheVariants as query
+use Rattle.svr_core.specs.declared.catalog.Done.{Done}
+use Rattle.svr_core.specs.declared.catalog.Done.TheVariants.{Changed, Found}
+use Rattle.svr_core.specs.Outcomes.{Outcome, refused, found, changes_to}
+use Rattle.svr_core.specs.State.{Catalog}
+
+-- a refusal is that of the outcome, or want of memory
+abbrev pub MayRefuse : Outcome → Refusal → Type 0
+MayRefuse o why = (o ≡ refused why) ⊎ (why ≡ refusal.Memory)
+
+abbrev pub query_refusal : QueryRefusal → Refusal
+query_refusal query.NoTerms = refusal.NoTerms
+query_refusal query.TooManyTerms = refusal.TooManyTerms
+query_refusal query.Memory = refusal.Memory
+
+abbrev pub schema_refusal : SchemaError → Refusal
+schema_refusal (error.Rule n) = refusal.BadSchema n
+schema_refusal error.Memory = refusal.Memory
+
+-- what was done is the outcome, and a catalog that was not changed is the same
+abbrev pub IsDone : Outcome → Catalog → Catalog → Done → Type 0
+IsDone o before after Changed = o ≡ changes_to after
+IsDone o before after (Found answer) = (o ≡ found answer) × (after ≡ before)
+
+abbrev pub IsShort : Done → Type 0
+IsShort Changed = Unit {0}
+IsShort (Found answer) = length answer.hits ≤ 1000
+
+-- values make no row, at this column, or memory is wanting
+abbrev pub IsBadRow : Option ℕ → Refusal → Type 0
+IsBadRow bad why = ((column : ℕ) × (bad ≡ Some column) × (why ≡ refusal.BadRow column)) ⊎ (why ≡ refusal.Memory)
+
+-- the same, where a catalog may be set
+abbrev pub IsServed : Outcome → Option Catalog → Option Catalog → Done → Type 0
+IsServed o before after Changed = (c : Catalog) × (o ≡ changes_to c) × (after ≡ Some c)
+IsServed o before after (Found answer) = (o ≡ found answer) × (after ≡ before)

@@ -1,0 +1,185 @@
+ghost use Rattle.std.specs.Prelude.{◌≡◌, ◌<◌, ◌≤◌, map, length, None, Some, IfOk, IfErr, OnOk, OnErr};
+ghost use Rattle.svr_request.specs.Requests.{insert, seen, update};
+ghost use Rattle.svr_rows.specs.Rows.{bad_column, cell_in, kinds_in, kinds_of, no_rows};
+ghost use Rattle.svr_schema.specs.Lawful.{IsSchema, IsTable};
+ghost use Rattle.svr_schema.specs.Lookups.{table_at};
+ghost use Rattle.svr_tokens.specs.Tokens.{tokens_of};
+ghost use Rattle.svr_core.specs.Outcomes.{changes_to, change_outcome, found, k_of, row_of, search_outcome, served_outcome};
+ghost use Rattle.svr_core.specs.Steps.{IsBadRow, IsDone, IsShort, MayRefuse};
+
+use crate::document::Document;
+use crate::effect::{Effect, carry_out};
+use crate::refusals::{refused_query, refused_row};
+use crate::search::search;
+use std::alloc::Global;
+use std::collections::BTreeMap;
+use std::marker::Model;
+use svr_edge::{Items, Memory};
+use svr_num::{DocId, Mode};
+use svr_request::{Answer, Refusal, Request};
+use svr_rows::{Change, Given, Row, Tables, TypedRefusal, typed_row};
+use svr_schema::{Schema, Table};
+use svr_tokens::query_terms;
+
+/// The greatest `k` of a search.
+const GREATEST_K: i128 = 1000;
+
+/// A schema, the rows of its tables, and the documents that they make, by id.
+#[derive(Drop)]
+pub struct Catalog {
+    schema: Schema,
+    tables: Tables,
+    documents: BTreeMap<DocId, Document>,
+}
+
+impl Model for Catalog {
+    ghost use Rattle.svr_core.specs.State.{Catalog};
+
+    ghost Value = { Catalog };
+
+    ghost view = { λ c. record { schema = c.schema; tables = c.tables } };
+
+    ghost use Rattle.svr_core.specs.Documents.{IsCatalog};
+
+    ghost invariant = { λ c. IsCatalog c.schema c.tables c.documents.entries };
+}
+
+/// What came of a request that wasn't refused.
+#[derive(Drop)]
+pub enum Done {
+    Changed,
+    Found(Answer),
+}
+
+impl Catalog {
+    /// A schema's tables, without rows.
+    pub fn new(alloc: Global, schema: Schema) -> Result<Catalog, Memory>
+        requires { IsSchema schema }
+        ensures { IfOk result (λ catalog. catalog ≡ record { schema = schema; tables = map no_rows schema.tables }) }
+    {
+        let tables = Tables::new(alloc, &schema)?;
+        Ok(Catalog {
+            schema,
+            tables,
+            documents: BTreeMap::new(alloc),
+        })
+    }
+
+    /// Does what a request asks for.
+    pub fn serve(&mut self, alloc: Global, request: Request) -> Result<Done, Refusal>
+        ensures done { IfOk result (IsDone (served_outcome self.old (seen request)) self.old self.new) }
+        ensures short { IfOk result IsShort }
+        ensures refused { IfErr result (MayRefuse (served_outcome self.old (seen request))) }
+        ensures err { OnErr result (self.new ≡ self.old) }
+    {
+        match request {
+            Request::Insert { table, row } => {
+                let change = self.insertion(alloc, table.as_str(), row)?;
+                self.change(alloc, change)
+            }
+            Request::Update { table, row } => {
+                let change = self.replacement(alloc, table.as_str(), row)?;
+                self.change(alloc, change)
+            }
+            Request::Delete { table, id } => {
+                let table = self.table(table.as_str())?;
+                self.change(alloc, Change::Delete { table, id })
+            }
+            Request::Search { query, mode, k } => {
+                Ok(Done::Found(self.search(alloc, query.as_str(), mode, k)?))
+            }
+            Request::Schema(_) => Err(Refusal::SchemaSet),
+            Request::Merge
+            | Request::MergeBegin
+            | Request::MergeSlice { .. }
+            | Request::MergePublish => Err(Refusal::UnknownOp),
+        }
+    }
+
+    /// The place of a table.
+    fn table(&self, name: &str) -> Result<u8, Refusal>
+        ensures ok { IfOk result (λ table. table_at self.now.schema.tables name.now ≡ Some table) }
+        ensures there { IfOk result (λ table. table < length self.now.schema.tables) }
+        ensures refused { IfErr result (λ why. (table_at self.now.schema.tables name.now ≡ None) × (why ≡ Refusal.NoTable)) }
+    {
+        self.schema.table(name).ok_or(Refusal::NoTable)
+    }
+
+    /// The row that values make in a table.
+    fn row(&self, alloc: Global, table: u8, given: Items<Given>) -> Result<Row, Refusal>
+        requires there { table < length self.now.schema.tables }
+        ensures row { IfOk result (λ row. row ≡ row_of given) }
+        ensures fits { OnOk result (bad_column (kinds_in self.now.tables table) (map cell_in given) ≡ None) }
+        ensures refused { IfErr result (IsBadRow (bad_column (kinds_in self.now.tables table) (map cell_in given))) }
+    {
+        row_in(alloc, &self.schema.tables.as_slice()[table as usize], given)
+    }
+
+    /// The insert of a row that values make.
+    fn insertion(&self, alloc: Global, name: &str, given: Items<Given>) -> Result<Change, Refusal>
+        ensures change { IfOk result (λ change. served_outcome self.now (insert name.now given) ≡ change_outcome self.now change) }
+        ensures refused { IfErr result (MayRefuse (served_outcome self.now (insert name.now given))) }
+    {
+        let table = self.table(name)?;
+        let row = self.row(alloc, table, given)?;
+        Ok(Change::Insert { table, row })
+    }
+
+    /// The update of a row to the one that values make.
+    fn replacement(&self, alloc: Global, name: &str, given: Items<Given>) -> Result<Change, Refusal>
+        ensures change { IfOk result (λ change. served_outcome self.now (update name.now given) ≡ change_outcome self.now change) }
+        ensures refused { IfErr result (MayRefuse (served_outcome self.now (update name.now given))) }
+    {
+        let table = self.table(name)?;
+        let row = self.row(alloc, table, given)?;
+        Ok(Change::Update { table, row })
+    }
+
+    /// Makes a change, unless a row refuses it.
+    fn change(&mut self, alloc: Global, change: Change) -> Result<Done, Refusal>
+        ensures done { IfOk result (λ done. done ≡ Done.Changed) }
+        ensures changed { OnOk result (change_outcome self.old change ≡ changes_to self.new) }
+        ensures refused { IfErr result (MayRefuse (change_outcome self.old change)) }
+        ensures err { OnErr result (self.new ≡ self.old) }
+    {
+        self.tables.check(&change).map_err(refused_row)?;
+        let effect = Effect::of(alloc, &self.schema, &change)?;
+        carry_out(&mut self.documents, &mut self.tables, change, effect)?;
+        Ok(Done::Changed)
+    }
+
+    /// The best `k` documents that match a query.
+    fn search(&self, alloc: Global, query: &str, mode: Mode, k: i128) -> Result<Answer, Refusal>
+        ensures found { IfOk result (λ answer. search_outcome self.now (tokens_of query.now) mode k ≡ found answer) }
+        ensures short { IfOk result (λ answer. length answer.hits ≤ 1000) }
+        ensures refused { IfErr result (MayRefuse (search_outcome self.now (tokens_of query.now) mode k)) }
+    {
+        let terms = query_terms(alloc, query).map_err(refused_query)?;
+        let k = k_in(k).ok_or(Refusal::BadK)?;
+        Ok(search(alloc, &self.documents, &terms, mode, k)?)
+    }
+}
+
+/// The row that values make in a table.
+fn row_in(alloc: Global, table: &Table, given: Items<Given>) -> Result<Row, Refusal>
+    requires { IsTable table.now }
+    ensures row { IfOk result (λ row. row ≡ row_of given) }
+    ensures fits { OnOk result (bad_column (kinds_of table.now) (map cell_in given) ≡ None) }
+    ensures refused { IfErr result (IsBadRow (bad_column (kinds_of table.now) (map cell_in given))) }
+{
+    match typed_row(alloc, table, given.into_vec()) {
+        Ok(row) => Ok(row),
+        Err(TypedRefusal::BadRow { column }) => Err(Refusal::BadRow { column }),
+        Err(TypedRefusal::Memory) => Err(Refusal::Memory),
+    }
+}
+
+/// A number of hits, if it is from 1 to `GREATEST_K`.
+fn k_in(k: i128) -> Option<u32>
+    ensures { result ≡ k_of k }
+{
+    if k < 1 || k > GREATEST_K {
+        return None;
+    }
+    Some(k as u32)
+}

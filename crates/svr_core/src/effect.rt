@@ -1,0 +1,132 @@
+ghost use Rattle.std.specs.Prelude.{◌≡◌, None, IsSome, IfOk, OnOk, OnErr};
+ghost use Rattle.std.specs.BTreeMap.{insert_entry, is_at};
+ghost use Rattle.std.specs.Map.{lookup, remove_entry};
+ghost use Rattle.std.specs.Ordering.{nat_cmp};
+ghost use Rattle.svr_rows.specs.Changes.{changed, refusal_of};
+ghost use Rattle.svr_schema.specs.Lawful.{IsSchema};
+ghost use Rattle.svr_core.specs.Documents.{Suits, after_effect, effect_of};
+ghost use Rattle.svr_core.specs.Changing.{RowHasId};
+
+use crate::document::Document;
+use std::alloc::Global;
+use std::collections::BTreeMap;
+use svr_edge::Memory;
+use svr_num::DocId;
+use svr_rows::{Change, Tables};
+use svr_schema::Schema;
+
+/// What a change does to the documents.
+#[derive(Drop)]
+pub enum Effect {
+    Nothing,
+    Add(Document),
+    Replace(Document),
+    Remove(DocId),
+}
+
+impl Effect {
+    pub fn of(alloc: Global, schema: &Schema, change: &Change) -> Result<Effect, Memory>
+        requires lawful { IsSchema schema.now }
+        requires has_id { RowHasId change.now }
+        ensures { IfOk result (λ effect. effect ≡ effect_of schema.now change.now) }
+    {
+        match change {
+            Change::Insert { table, row } if *table == schema.text_table => {
+                Ok(Effect::Add(Document::new(alloc, schema, row)?))
+            }
+            Change::Update { table, row } if *table == schema.text_table => {
+                Ok(Effect::Replace(Document::new(alloc, schema, row)?))
+            }
+            Change::Delete { table, id } if *table == schema.text_table => Ok(Effect::Remove(*id)),
+            _ => Ok(Effect::Nothing),
+        }
+    }
+}
+
+/// Adds a document and makes its change, or does nothing.
+fn add(
+    documents: &mut BTreeMap<DocId, Document>,
+    tables: &mut Tables,
+    document: Document,
+    change: Change,
+) -> Result<(), Memory>
+    requires accepted { refusal_of tables.old change ≡ None }
+    requires absent { lookup (is_at (nat_cmp document.id)) documents.old.entries ≡ None }
+    ensures tables { OnOk result (tables.new ≡ changed tables.old change) }
+    ensures documents { OnOk result
+        (documents.new.entries ≡ insert_entry nat_cmp documents.old.entries document.id document) }
+    ensures tables_err { OnErr result (tables.new ≡ tables.old) }
+    ensures documents_err { OnErr result (documents.new.entries ≡ documents.old.entries) }
+{
+    let id = document.id;
+    documents.insert(id, document)?;
+    if tables.apply(change).is_err() {
+        documents.remove(&id);
+        return Err(Memory);
+    }
+    Ok(())
+}
+
+/// Makes a change and replaces its document, or does nothing.
+fn replace(
+    documents: &mut BTreeMap<DocId, Document>,
+    tables: &mut Tables,
+    document: Document,
+    change: Change,
+) -> Result<(), Memory>
+    requires accepted { refusal_of tables.old change ≡ None }
+    requires present { IsSome (lookup (is_at (nat_cmp document.id)) documents.old.entries) }
+    ensures tables { OnOk result (tables.new ≡ changed tables.old change) }
+    ensures documents { OnOk result
+        (documents.new.entries ≡ insert_entry nat_cmp documents.old.entries document.id document) }
+    ensures tables_err { OnErr result (tables.new ≡ tables.old) }
+    ensures documents_err { OnErr result (documents.new.entries ≡ documents.old.entries) }
+{
+    tables.apply(change)?;
+    let replaced: Result<_, _> = documents.insert(document.id, document);
+    let _ = replaced.unwrap();
+    Ok(())
+}
+
+/// Makes a change and removes its document, or does nothing.
+fn remove(
+    documents: &mut BTreeMap<DocId, Document>,
+    tables: &mut Tables,
+    id: DocId,
+    change: Change,
+) -> Result<(), Memory>
+    requires accepted { refusal_of tables.old change ≡ None }
+    ensures tables { OnOk result (tables.new ≡ changed tables.old change) }
+    ensures documents { OnOk result (documents.new.entries ≡ remove_entry (is_at (nat_cmp id)) documents.old.entries) }
+    ensures tables_err { OnErr result (tables.new ≡ tables.old) }
+    ensures documents_err { OnErr result (documents.new.entries ≡ documents.old.entries) }
+{
+    tables.apply(change)?;
+    documents.remove(&id);
+    Ok(())
+}
+
+/// Makes a change with its effect on the documents, or does nothing.
+pub fn carry_out(
+    documents: &mut BTreeMap<DocId, Document>,
+    tables: &mut Tables,
+    change: Change,
+    effect: Effect,
+) -> Result<(), Memory>
+    requires accepted { refusal_of tables.old change ≡ None }
+    requires suits { Suits effect documents.old.entries }
+    ensures tables { OnOk result (tables.new ≡ changed tables.old change) }
+    ensures documents { OnOk result (documents.new.entries ≡ after_effect effect documents.old.entries) }
+    ensures tables_err { OnErr result (tables.new ≡ tables.old) }
+    ensures documents_err { OnErr result (documents.new.entries ≡ documents.old.entries) }
+{
+    match effect {
+        Effect::Nothing => {
+            tables.apply(change)?;
+            Ok(())
+        }
+        Effect::Add(document) => add(documents, tables, document, change),
+        Effect::Replace(document) => replace(documents, tables, document, change),
+        Effect::Remove(id) => remove(documents, tables, id, change),
+    }
+}

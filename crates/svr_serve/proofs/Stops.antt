@@ -1,0 +1,223 @@
+-- What was written and how many bytes were taken, after the last turn.
+use Rattle.std.proofs.Common.{◌≡◌, ◌⊎◌, ℕ, ◌<◌, ◌^◌, inl, inr, Bool, true, false, List, [], ◌∷◌, ◌++◌, length, map, refl, sym, ap, ◌∙◌, subst, arith, append_assoc, append-nil, length-append, Option, Some, None, IfSome, Result}
+use Rattle.std.specs.Io.KnownBytes.{Appends, Consumes, IsAtEnd}
+use Rattle.std.proofs.KnownBytes.{Appends-trans, Consumes-trans}
+use Rattle.svr_core.specs.Run.{IsRun, texts}
+use Rattle.svr_core.specs.State.{empty}
+use Rattle.svr_lines.specs.Lines.{IsWholeLines, pieces_of}
+use Rattle.svr_lines.specs.Pieces.{StopsInLine}
+use Rattle.svr_lines.specs.Reading.{KnowsEnd, Reading, taken_bytes}
+use Rattle.svr_request.specs.declared.refusal.Refusal.{Refusal}
+use Rattle.svr_request.specs.declared.reply.Reply.{Reply}
+use Rattle.svr_request.specs.Replies.{text_of}
+use Rattle.svr_request.specs.Requests.{Wanted}
+use Rattle.svr_serve.specs.declared.ending.Ending.{Ending}
+use Rattle.svr_serve.specs.declared.ending.Ending.TheVariants.{Complete, Words, Input, Output, Memory, Bytes}
+use Rattle.svr_serve.specs.Input.{line_request, requests_of}
+use Rattle.svr_serve.specs.Program.{AnswersFirst, IsPrefix, Served, Took, TookLess, WritesPart}
+use Rattle.svr_serve.specs.Serving.{EndsBy, EndsInput, Replies, SoFar, Standing, StopsReading, StopsTurn, WritesBehind, WritesFirst}
+use Rattle.svr_serve.proofs.Pieces.{requests_of-none, requests_of-whole, whole_requests-whole}
+use Rattle.svr_serve.proofs.Runs.{texts-more}
+use Rattle.svr_serve.proofs.Turns.{Consumes-ahead, Consumes-reads, next_run, next_whole}
+
+-- ---- what is left to be read
+
+-- the input, where it is known, by what was handed out, what is ahead and the rest
+by_rest : (left now : Option (List ℕ)) (handed ahead : List ℕ) (P : List ℕ → Type 0) → Consumes left now (handed ++ ahead)
+    → ((rest : List ℕ) → now ≡ Some rest → P (handed ++ (ahead ++ rest))) → IfSome left P
+by_rest None now handed ahead P p f = tt
+by_rest (Some input) None handed ahead P p f = absurd p
+by_rest (Some input) (Some rest) handed ahead P p f = subst P (sym (append_assoc handed ahead rest) ∙ sym p) (f rest refl)
+
+-- at the end none is left
+none_left : (now : Option (List ℕ)) (ahead rest : List ℕ) → ahead ≡ [] → IsAtEnd now → now ≡ Some rest → ahead ++ rest ≡ []
+none_left None ahead rest none end known = cc
+none_left (Some xs) ahead rest none end known =
+    let same : xs ≡ rest = cc in
+    ap (λ ys. ys ++ rest) none ∙ sym same ∙ end
+
+by_cases : (b : Bool) (P : Type 0) → (b ≡ true → P) → (b ≡ false → P) → P
+by_cases true P f g = f refl
+by_cases false P f g = g refl
+
+module _ (lines : Reading) (now : Option (List ℕ)) (handed rest : List ℕ) (w : lines.ended ≡ false → IsWholeLines handed)
+    (k : KnowsEnd lines now) (known : now ≡ Some rest) where
+  -- the requests behind what was handed out are the others
+  others_behind : requests_of (handed ++ (lines.ahead ++ rest)) ≡ requests_of handed ++ requests_of (lines.ahead ++ rest)
+  others_behind =
+      by_cases lines.ended (requests_of (handed ++ (lines.ahead ++ rest)) ≡ requests_of handed ++ requests_of (lines.ahead ++ rest))
+      (λ is. let none = none_left now lines.ahead rest (k is).0 (k is).1 known in
+      ap (λ xs. requests_of (handed ++ xs)) none ∙ ap requests_of (append-nil handed) ∙ sym (append-nil (requests_of handed))
+      ∙ ap (λ rs. requests_of handed ++ rs) (sym (requests_of-none (lines.ahead ++ rest) none)))
+      (λ is. requests_of-whole handed (lines.ahead ++ rest) (w is))
+
+  answers_first : (replies : List Reply) → IsRun empty (requests_of handed) replies
+      → AnswersFirst (handed ++ (lines.ahead ++ rest)) replies
+  answers_first replies run = record {
+    requests = requests_of handed;
+    others = requests_of (lines.ahead ++ rest);
+    first = others_behind;
+    run = run;
+  }
+
+-- what was handed out last has no request
+last_requests : (handed gone rest : List ℕ) → IsWholeLines handed → pieces_of gone ≡ [] → rest ≡ []
+    → requests_of ((handed ++ gone) ++ rest) ≡ requests_of handed
+last_requests handed gone rest w none nil = ap (λ xs. requests_of ((handed ++ gone) ++ xs)) nil
+    ∙ ap requests_of (append-nil (handed ++ gone)) ∙ requests_of-whole handed gone w
+    ∙ ap (λ ls. requests_of handed ++ map line_request ls) none ∙ append-nil (requests_of handed)
+
+served_all : (left rest taken now : Option (List ℕ)) (requests : List (Result Wanted Refusal)) (replies : List Reply)
+    → IfSome left (λ input. requests_of input ≡ requests) → IsRun empty requests replies → Appends taken now (texts replies)
+    → IsAtEnd rest → Served left rest taken now
+served_all None rest taken now requests replies all run written end = record { end = end; replies = tt }
+served_all (Some input) rest taken now requests replies all run written end = record {
+  end = end;
+  replies = (replies, subst (λ (rs : List (Result Wanted Refusal)). IsRun empty rs replies) (sym all) run, written);
+}
+
+-- the end was seen before, and no byte is taken behind it
+took_no_more : (a b c : Option (List ℕ)) (xs bytes : List ℕ) (most : ℕ) → Consumes a b xs → IsAtEnd b → Consumes b c bytes
+    → length xs < most → TookLess most a c
+took_no_more None b c xs bytes most p end q few = ([], tt, omega (arith, few))
+took_no_more (Some x) None c xs bytes most p end q few = absurd p
+took_no_more (Some x) (Some y) None xs bytes most p end q few = absurd q
+took_no_more (Some x) (Some y) (Some z) xs bytes most p end q few = (
+  xs ++ bytes,
+  Consumes-trans (Some x) (Some y) (Some z) xs bytes p q,
+  omega (arith, few, ap length end, ap length q, length-append xs bytes, length-append bytes z),
+)
+
+-- ---- the last turn
+
+-- a request could be read, or the sink failed
+reads_none : (e : Ending) (old new : Standing) → StopsTurn e old new → (e ≡ Output → ⊥)
+    → StopsReading e old.left new.left old.lines new.lines × (new.taken ≡ old.taken)
+reads_none e old new p other = elim p [ inl cut ↦ absurd (other cut.0) | inr none ↦ (none.0, none.1.1) ]
+
+-- no stop is a complete end
+not_complete : (e : Ending) (old new : Standing) → StopsTurn e old new → e ≡ Complete → ⊥
+not_complete e old new p is =
+    (reads_none Complete old new (subst (λ (x : Ending). StopsTurn x old new) is p) (λ other. cc)).0
+
+module _ (left taken : Option (List ℕ)) (old new : Standing) (s : SoFar left taken old) where
+  same_written : new.taken ≡ old.taken → Appends taken new.taken (texts s.replies)
+  same_written silent = subst (λ (w : Option (List ℕ)). Appends taken w (texts s.replies)) (sym silent) s.written
+
+  -- nothing more was written
+  writes_first : new.taken ≡ old.taken → WritesFirst left taken new.taken
+  writes_first silent =
+      by_rest left old.left s.handed old.lines.ahead
+      (λ input. (replies : List Reply) × AnswersFirst input replies × Appends taken new.taken (texts replies)) s.consumed
+      (λ rest known. (
+        s.replies,
+        answers_first old.lines old.left s.handed rest s.whole s.known_end known s.replies s.run,
+        same_written silent,
+      ))
+
+  -- a reply was written in part
+  writes_part : (reply : Reply) (front : List ℕ) → IsPrefix front (text_of reply) → Replies old new reply front
+      → WritesPart left taken new.taken
+  writes_part reply front f r =
+      let a = r.0 in
+      let t = a.takes in
+      let handed = s.handed ++ t.gone in
+      let part : texts (s.replies ++ reply ∷ []) ≡ (texts s.replies ++ front) ++ f.0 = texts-more s.replies reply
+      ∙ ap (λ ys. texts s.replies ++ ys) f.1 ∙ sym (append_assoc (texts s.replies) front f.0) in
+      by_rest left new.left handed new.lines.ahead
+      (λ input. (replies : List Reply) × (written : List ℕ) × AnswersFirst input replies × IsPrefix written (texts replies)
+      × Appends taken new.taken written)
+      (Consumes-reads left old.left new.left old.lines new.lines s.handed t.gone t.bytes s.consumed t.reads)
+      (λ rest known. (
+        s.replies ++ reply ∷ [],
+        texts s.replies ++ front,
+        answers_first new.lines new.left handed rest (next_whole left taken old new s a.request t) t.known_end known
+            (s.replies ++ reply ∷ []) (next_run left taken old new s reply a),
+        (f.0, part),
+        Appends-trans taken old.taken new.taken (texts s.replies) front s.written r.1,
+      ))
+
+  -- the reader stopped
+  writes_behind : (bytes : List ℕ) → old.lines.ended ≡ false → StopsInLine old.left new.left old.lines new.lines bytes
+      → new.taken ≡ old.taken → WritesBehind left new.left taken new.taken
+  writes_behind bytes open_end p silent =
+      let ahead = old.lines.ahead ++ bytes in (
+        s.handed ++ ahead,
+        s.replies,
+        Consumes-ahead left old.left new.left s.handed old.lines.ahead bytes ahead s.consumed p.consumed refl,
+        subst (λ (rs : List (Result Wanted Refusal)). IsRun empty rs s.replies)
+            (sym (whole_requests-whole s.handed ahead (s.whole open_end) p.none)) s.run,
+        same_written silent,
+      )
+
+  pub stops_by : (e : Ending) → StopsTurn e old new → EndsBy e left new.left taken new.taken
+  stops_by Output p = elim p [ inl cut ↦ writes_part cut.1 cut.2 cut.3 cut.4 | inr none ↦ absurd none.0 ]
+  stops_by Input p = let r = reads_none Input old new p (λ is. cc) in writes_behind r.0.1 r.0.0 r.0.2 r.1
+  stops_by Bytes p = let r = reads_none Bytes old new p (λ is. cc) in writes_behind r.0.1 r.0.0 r.0.2 r.1
+  stops_by Memory p = writes_first (reads_none Memory old new p (λ is. cc)).1
+  stops_by Complete p = absurd (reads_none Complete old new p (λ is. cc)).0
+  stops_by Words p = absurd (reads_none Words old new p (λ is. cc)).0
+
+  -- the input ended
+  all_requests : (e : EndsInput old.left new.left old.lines new.lines) → IfSome left (λ input. requests_of input ≡ requests_of s.handed)
+  all_requests e =
+      by_cases old.lines.ended (IfSome left (λ input. requests_of input ≡ requests_of s.handed))
+      (λ is. by_rest left old.left s.handed old.lines.ahead (λ input. requests_of input ≡ requests_of s.handed) s.consumed
+      (λ rest known. let end = s.known_end is in
+      ap (λ xs. requests_of (s.handed ++ xs)) (none_left old.left old.lines.ahead rest end.0 end.1 known)
+      ∙ ap requests_of (append-nil s.handed)))
+      (λ is. by_rest left new.left (s.handed ++ e.gone) new.lines.ahead (λ input. requests_of input ≡ requests_of s.handed)
+      (Consumes-reads left old.left new.left old.lines new.lines s.handed e.gone e.bytes s.consumed e.reads)
+      (λ rest known. last_requests s.handed e.gone (new.lines.ahead ++ rest) (s.whole is) e.none
+      (none_left new.left new.lines.ahead rest e.last.ahead e.last.source known)))
+
+  pub served : EndsInput old.left new.left old.lines new.lines → new.taken ≡ old.taken → Served left new.left taken new.taken
+  served e silent = served_all left new.left taken new.taken (requests_of s.handed) s.replies (all_requests e) s.run
+      (same_written silent) e.last.source
+
+  -- ---- how many bytes were taken
+
+  took_behind : (bytes : List ℕ) → StopsInLine old.left new.left old.lines new.lines bytes
+      → Took (taken_bytes new.lines) left new.left
+  took_behind bytes p =
+      let ahead = old.lines.ahead ++ bytes in (
+        s.handed ++ ahead,
+        Consumes-ahead left old.left new.left s.handed old.lines.ahead bytes ahead s.consumed p.consumed refl,
+        omega (arith, s.count, p.taken, length-append s.handed ahead, length-append old.lines.ahead bytes),
+      )
+
+  pub took_all : (e : Ending) → StopsTurn e old new → e ≡ Bytes → taken_bytes new.lines ≡ new.lines.limit
+      → Took (2 ^ 40) left new.left
+  took_all e p is all =
+      let r = reads_none Bytes old new (subst (λ (x : Ending). StopsTurn x old new) is p) (λ other. cc) in
+      let took = took_behind r.0.1 r.0.2 in
+      (took.0, took.1, took.2 ∙ all ∙ r.0.2.limit ∙ s.limit)
+
+  pub took_less : (e : Ending) → StopsTurn e old new → (e ≡ Complete) ⊎ (e ≡ Input)
+      → (e ≡ Input → taken_bytes new.lines < new.lines.limit) → TookLess (2 ^ 40) left new.left
+  took_less e p by less = elim by [
+    | inl complete ↦ absurd (not_complete e old new p complete)
+    | inr is ↦
+        let r = reads_none Input old new (subst (λ (x : Ending). StopsTurn x old new) is p) (λ other. cc) in
+        let took = took_behind r.0.1 r.0.2 in
+        (took.0, took.1, omega (arith, took.2, less is, r.0.2.limit, s.limit))
+  ]
+
+  pub took_to_end : EndsInput old.left new.left old.lines new.lines → TookLess (2 ^ 40) left new.left
+  took_to_end e = by_cases old.lines.ended (TookLess (2 ^ 40) left new.left)
+      (λ is. took_no_more left old.left new.left (s.handed ++ old.lines.ahead) e.bytes (2 ^ 40) s.consumed (s.known_end is).1
+      e.reads.consumed (omega (arith, s.count, s.before_limit is, length-append s.handed old.lines.ahead)))
+      (λ is. (
+        (s.handed ++ e.gone) ++ new.lines.ahead,
+        Consumes-reads left old.left new.left old.lines new.lines s.handed e.gone e.bytes s.consumed e.reads,
+        omega (
+          arith,
+          s.count,
+          e.reads.handed,
+          e.before_limit is,
+          e.reads.limit,
+          s.limit,
+          length-append (s.handed ++ e.gone) new.lines.ahead,
+          length-append s.handed e.gone,
+        ),
+      ))

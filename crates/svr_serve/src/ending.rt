@@ -1,0 +1,47 @@
+ghost use Rattle.std.specs.Prelude.{◌≡◌};
+ghost use Rattle.svr_serve.specs.Program.{fault_line};
+ghost use Rattle.svr_serve.specs.Serving.{status_of};
+
+/// How the program ends.
+#[derive(Clone, Copy, Debug, PartialEq, Eq)]
+pub(crate) enum Ending {
+    /// The input was read to its end.
+    Complete,
+    /// The words of the command line have no reading.
+    Words,
+    /// The source failed.
+    Input,
+    /// The sink failed.
+    Output,
+    /// Memory was wanting before a line could be read as a request.
+    Memory,
+    /// As many bytes were read as may be.
+    Bytes,
+}
+
+impl Ending {
+    pub(crate) fn status(self) -> u8
+        ensures { result ≡ status_of self }
+    {
+        match self {
+            Ending::Complete => 0,
+            Ending::Words => 2,
+            Ending::Input => 3,
+            Ending::Output => 4,
+            Ending::Memory => 7,
+            Ending::Bytes => 8,
+        }
+    }
+
+    pub(crate) fn fault_line(self) -> &'static [u8]
+        ensures { result.now ≡ fault_line (status_of self) }
+    {
+        match self {
+            Ending::Complete | Ending::Output => b"",
+            Ending::Words => b"{\"fault\":\"words\"}\n",
+            Ending::Input => b"{\"fault\":\"input\"}\n",
+            Ending::Memory => b"{\"fault\":\"memory\"}\n",
+            Ending::Bytes => b"{\"fault\":\"long\"}\n",
+        }
+    }
+}

@@ -1,0 +1,48 @@
+ghost use Rattle.std.specs.Prelude.{◌≡◌, ◌≤◌, ℕ, List, OnOk, OnErr};
+ghost use Rattle.std.specs.Io.KnownBytes.{Appends};
+ghost use Rattle.svr_edge.specs.Causes.{Rose};
+ghost use Rattle.svr_serve.specs.Program.{IsPrefix, WritesFault};
+ghost use Rattle.svr_serve.specs.Serving.{status_of};
+
+use crate::ending::Ending;
+use svr_edge::{Failed, Sink};
+
+/// Writes all of a piece.
+fn write_all<O: Sink>(output: &mut O, piece: &[u8]) -> Result<(), Failed>
+    ensures bytes { (front : List ℕ) × IsPrefix front piece.now
+        × Appends (O.taken output.old) (O.taken output.new) front × OnOk result (front ≡ piece.now) }
+    ensures later { O.faults output.old ≤ O.faults output.new }
+    ensures failed { OnErr result (Rose (O.faults output.old) (O.faults output.new)) }
+{
+    let mut rest = piece;
+    while !rest.is_empty() {
+        let count = output.write(rest)?;
+        rest = &rest[count..];
+    }
+    Ok(())
+}
+
+/// Writes all of a piece, and sends it on its way.
+pub(crate) fn send<O: Sink>(output: &mut O, piece: &[u8]) -> Result<(), Failed>
+    ensures bytes { (front : List ℕ) × IsPrefix front piece.now
+        × Appends (O.taken output.old) (O.taken output.new) front × OnOk result (front ≡ piece.now) }
+    ensures later { O.faults output.old ≤ O.faults output.new }
+    ensures failed { OnErr result (Rose (O.faults output.old) (O.faults output.new)) }
+{
+    write_all(output, piece)?;
+    output.flush()
+}
+
+/// Writes the fault line of an ending that has one, as far as the sink takes it, and answers the status.
+pub(crate) fn finish<O: Sink>(ending: Ending, output: &mut O) -> u8
+    ensures status { result ≡ status_of ending }
+    ensures line { (line : List ℕ) × WritesFault result (O.faults output.old) (O.faults output.new) line
+        × Appends (O.taken output.old) (O.taken output.new) line }
+    ensures later { O.faults output.old ≤ O.faults output.new }
+{
+    let line = ending.fault_line();
+    if !line.is_empty() {
+        let _ = send(output, line);
+    }
+    ending.status()
+}
