@@ -1,0 +1,4 @@
+pub mod Fields
+pub mod Between
+pub mod Reading
+pub mod Turns
