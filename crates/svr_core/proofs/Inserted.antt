@@ -13,8 +13,11 @@ step : {X : Type 0} (o : Ordering) (e : ℕ × X) (es : List (ℕ × X)) (k : �
     → remove_entry (is_at (nat_cmp k)) (match_ordering o ((k, v) ∷ e ∷ es) ((e.0, v) ∷ es) (e ∷ insert_entry nat_cmp es k v)) ≡ e ∷ es
 step Less e es k v is h rest = ap (λ b. cond b (e ∷ es) ((k, v) ∷ remove_entry (is_at (nat_cmp k)) (e ∷ es))) (same_key k)
 step Equal e es k v is h rest = cc
-step Greater e es k v is h rest = ap (λ o. cond (is_eq o) (insert_entry nat_cmp es k v) (e ∷ remove_entry (is_at (nat_cmp k)) (insert_entry nat_cmp es k v))) is ∙ ap (λ xs. e ∷ xs) (rest h)
+step Greater e es k v is h rest =
+    ap (λ o. cond (is_eq o) (insert_entry nat_cmp es k v) (e ∷ remove_entry (is_at (nat_cmp k)) (insert_entry nat_cmp es k v))) is
+    ∙ ap (λ xs. e ∷ xs) (rest h)
 
-pub remove_entry-insert_entry : {X : Type 0} (es : List (ℕ × X)) (k : ℕ) (v : X) → lookup (is_at (nat_cmp k)) es ≡ None → remove_entry (is_at (nat_cmp k)) (insert_entry nat_cmp es k v) ≡ es
+pub remove_entry-insert_entry : {X : Type 0} (es : List (ℕ × X)) (k : ℕ) (v : X) → lookup (is_at (nat_cmp k)) es ≡ None
+    → remove_entry (is_at (nat_cmp k)) (insert_entry nat_cmp es k v) ≡ es
 remove_entry-insert_entry [] k v h = ap (λ b. cond b [] ((k, v) ∷ [])) (same_key k)
 remove_entry-insert_entry (e ∷ es) k v h = step (nat_cmp k e.0) e es k v refl h (remove_entry-insert_entry es k v)

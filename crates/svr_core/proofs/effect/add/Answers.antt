@@ -7,4 +7,6 @@ use Rattle.svr_core.proofs.effect.add.Goals as goal
 pub returns-then-is_err-clause-documents_err : goal.returns-then-is_err-clause-documents_err
 returns-then-is_err-clause-documents_err c =
     let id = c.args.document.id in
-    c.remove.ensures.entries ∙ ap (remove_entry (is_at (nat_cmp id))) c.in_ok-insert.ensures.entries ∙ remove_entry-insert_entry c.args.documents.now.entries id c.args.document c.requires.absent
+    c.remove.ensures.entries
+    ∙ ap (remove_entry (is_at (nat_cmp id))) c.in_ok-insert.ensures.entries
+    ∙ remove_entry-insert_entry c.args.documents.now.entries id c.args.document c.requires.absent
