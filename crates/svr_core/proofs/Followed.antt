@@ -1,5 +1,5 @@
 -- The documents after a change.
-use Rattle.std.proofs.Common.{◌≡◌, ◌≢◌, ◌<◌, ◌==◌, ℕ, zero, suc, Bool, true, false, cond, List, [], ◌∷◌, map, length, Option, Some, None, is_some, option_map, refl, sym, ap, subst, ◌∙◌, arith}
+use Rattle.std.proofs.Common.{◌≡◌, ◌≢◌, ◌<◌, ◌==◌, ℕ, zero, suc, Bool, true, false, cond, List, [], ◌∷◌, map, length, Option, Some, None, is_some, option_map, Result, Ok, Err, OnOk, OnErr, refl, sym, ap, subst, ◌∙◌, arith}
 use Rattle.std.specs.BTreeMap.{insert_entry, is_at}
 use Rattle.std.specs.List.{All}
 use Rattle.std.specs.Map.{lookup, remove_entry}
@@ -21,6 +21,7 @@ use Rattle.svr_core.specs.declared.document.Document.{Document}
 use Rattle.svr_core.specs.declared.effect.Effect.{Effect}
 use Rattle.svr_core.specs.declared.effect.Effect.TheVariants as effect
 use Rattle.svr_core.specs.Documents.{IsCatalog, Suits, after_effect, document_of, documents_by_id, effect_of}
+use Rattle.svr_core.specs.Steps.{without_id}
 use Rattle.svr_core.proofs.Accepted.{IsAscending-rows_in, free-insert, place-put, taken-update}
 use Rattle.svr_core.proofs.Mapped.{insert_entry-map_values, map_values, remove_entry-map_values}
 
@@ -121,30 +122,47 @@ module _ (s : Schema) (tables : List TableRows) (entries : List (ℕ × Document
       ∙ documents_by_id-with_row s (rows_in tables s.text_table) row
       ∙ ap (λ at. documents_by_id s (with_row (rows_in tables at) row)) (sym same)
 
-  taken_row : (place id : ℕ) → All IsTableRows tables → place ≡ s.text_table
+  taken_row : (place id : ℕ) → place ≡ s.text_table
       → remove_entry (is_at (nat_cmp id)) entries ≡ documents_by_id s (without_row (rows_in tables place) id)
-  taken_row place id lawful same =
+  taken_row place id same =
       ap (remove_entry (is_at (nat_cmp id))) kept.documents
-      ∙ documents_by_id-without_row s (rows_in tables s.text_table) id (IsAscending-rows_in tables s.text_table lawful)
+      ∙ documents_by_id-without_row s (rows_in tables s.text_table) id (IsAscending-rows_in tables s.text_table kept.rows)
       ∙ ap (λ at. documents_by_id s (without_row (rows_in tables at) id)) (sym same)
 
-  pub IsCatalog-changed : (change : Change) → All IsTableRows tables → refusal_of tables change ≡ None
+  -- the rows of a table are others, and the documents follow
+  with_others : (e : Effect) (place : ℕ) (rows : List Row) → place < length tables → All IsTableRows (with_rows tables place rows)
+      → (place ≡ s.text_table → after_effect e entries ≡ documents_by_id s rows)
+      → IsCatalog s (with_rows tables place rows) (after_effect (cond (place == s.text_table) e effect.Nothing) entries)
+  with_others e place rows within lawful h = record {
+    lawful = kept.lawful;
+    kinds = kinds-with_rows tables place rows ∙ kept.kinds;
+    rows = lawful;
+    documents = followed e place rows (place == s.text_table) refl within h;
+  }
+
+  pub IsCatalog-changed : (change : Change) → All IsTableRows (changed tables change) → refusal_of tables change ≡ None
       → IsCatalog s (changed tables change) (after_effect (effect_of s change) entries)
-  IsCatalog-changed (Insert place row) lawful h = record {
-    lawful = kept.lawful;
-    kinds = kinds-with_rows tables place (with_row (rows_in tables place) row) ∙ kept.kinds;
-    documents = followed (effect.Add (document_of s row)) place (with_row (rows_in tables place) row) (place == s.text_table) refl
-        (place-put tables place row (CanPut-insert tables place row h)) (put_row place row);
-  }
-  IsCatalog-changed (Update place row) lawful h = record {
-    lawful = kept.lawful;
-    kinds = kinds-with_rows tables place (with_row (rows_in tables place) row) ∙ kept.kinds;
-    documents = followed (effect.Replace (document_of s row)) place (with_row (rows_in tables place) row) (place == s.text_table) refl
-        (place-put tables place row (CanPut-update tables place row h)) (put_row place row);
-  }
-  IsCatalog-changed (Delete place id) lawful h = record {
-    lawful = kept.lawful;
-    kinds = kinds-with_rows tables place (without_row (rows_in tables place) id) ∙ kept.kinds;
-    documents = followed (effect.Remove id) place (without_row (rows_in tables place) id) (place == s.text_table) refl
-        (place-delete tables place id h) (taken_row place id lawful);
-  }
+  IsCatalog-changed (Insert place row) lawful h =
+      with_others (effect.Add (document_of s row)) place (with_row (rows_in tables place) row)
+      (place-put tables place row (CanPut-insert tables place row h)) lawful (put_row place row)
+  IsCatalog-changed (Update place row) lawful h =
+      with_others (effect.Replace (document_of s row)) place (with_row (rows_in tables place) row)
+      (place-put tables place row (CanPut-update tables place row h)) lawful (put_row place row)
+  IsCatalog-changed (Delete place id) lawful h =
+      with_others (effect.Remove id) place (without_row (rows_in tables place) id)
+      (place-delete tables place id h) lawful (taken_row place id)
+
+  -- a change that was made, or not
+  pub IsCatalog-made : {T E : Type 0} (r : Result T E) (change : Change) (after : List TableRows) (now : List (ℕ × Document))
+      → refusal_of tables change ≡ None → OnOk r (after ≡ changed tables change) → OnOk r (All IsTableRows after)
+      → OnOk r (now ≡ after_effect (effect_of s change) entries) → OnErr r (after ≡ tables) → OnErr r (now ≡ entries) → IsCatalog s after now
+  IsCatalog-made (Ok x) change after now h same lawful documents stays keeps =
+      subst (λ ts. IsCatalog s ts now) (sym same) (subst (IsCatalog s (changed tables change)) (sym documents)
+      (IsCatalog-changed change (subst (All IsTableRows) same lawful) h))
+  IsCatalog-made (Err e) change after now h same lawful documents stays keeps =
+      subst (λ ts. IsCatalog s ts now) (sym stays) (subst (IsCatalog s tables) (sym keeps) kept)
+
+  pub IsCatalog-without_id : (place id : ℕ) → place < length tables → All IsTableRows (without_id tables place id)
+      → IsCatalog s (without_id tables place id) (after_effect (cond (place == s.text_table) (effect.Remove id) effect.Nothing) entries)
+  IsCatalog-without_id place id within lawful =
+      with_others (effect.Remove id) place (without_row (rows_in tables place) id) within lawful (taken_row place id)

@@ -5,6 +5,7 @@ use Rattle.std.specs.List.{cons_option, filter_map}
 use Rattle.svr_rows.specs.declared.row.Row.{Row}
 use Rattle.svr_rows.specs.declared.row.Given.{Given}
 use Rattle.svr_rows.specs.Rows.{TableRows, cell_in, kinds_at, kinds_in, kinds_of, no_rows, rows_at}
+use Rattle.svr_rows.proofs.Sums.{IsTableRows-all_no_rows}
 use Rattle.svr_schema.specs.declared.table.ColumnKind.{ColumnKind}
 use Rattle.svr_schema.specs.declared.table.Table.{Table}
 use Rattle.svr_schema.specs.declared.schema.Schema.{Schema}
@@ -56,5 +57,6 @@ pub IsCatalog-no_rows : (s : Schema) → IsSchema s → IsCatalog s (map no_rows
 IsCatalog-no_rows s lawful = record {
   lawful = lawful;
   kinds = kinds-no_rows s.tables;
+  rows = IsTableRows-all_no_rows s.tables lawful.tables;
   documents = ap (documents_by_id s) (sym (ap rows_at (slice_get-map no_rows s.tables s.text_table) ∙ rows_at-no_rows (slice_get s.tables s.text_table)));
 }

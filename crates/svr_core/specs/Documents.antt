@@ -1,7 +1,7 @@
 -- What is kept of a document beside its row.
 use Rattle.std.specs.Prelude.{◌≡◌, ℕ, ◌==◌, List, map, if◌then◌else◌, None, IsSome}
 use Rattle.std.specs.BTreeMap.{insert_entry, is_at}
-use Rattle.std.specs.List.{filter, list_any}
+use Rattle.std.specs.List.{All, filter, list_any}
 use Rattle.std.specs.Map.{lookup, remove_entry}
 use Rattle.std.specs.Ordering.{nat_cmp}
 use Rattle.svr_num.specs.declared.hit.Hit.{Hit}
@@ -11,6 +11,7 @@ use Rattle.svr_request.specs.declared.reply.Answer.{Answer}
 use Rattle.svr_rows.specs.declared.change.Change.{Change}
 use Rattle.svr_rows.specs.declared.change.Change.TheVariants.{Insert, Update, Delete}
 use Rattle.svr_rows.specs.declared.row.Row.{Row}
+use Rattle.svr_rows.specs.Kept.{IsTableRows}
 use Rattle.svr_rows.specs.Rows.{TableRows, id_of, kinds_of, rows_in}
 use Rattle.svr_schema.specs.declared.schema.Schema.{Schema}
 use Rattle.svr_schema.specs.Lawful.{IsSchema}
@@ -61,4 +62,5 @@ Suits (effect.Remove id) entries = Unit {0}
 pub record IsCatalog (schema : Schema) (tables : List TableRows) (entries : List (ℕ × Document)) : Type 0 where
   pub lawful : IsSchema schema
   pub kinds : map (λ t. t.kinds) tables ≡ map kinds_of schema.tables
+  pub rows : All IsTableRows tables
   pub documents : entries ≡ documents_by_id schema (rows_in tables schema.text_table)

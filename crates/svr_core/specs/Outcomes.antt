@@ -6,14 +6,15 @@ use Rattle.svr_num.specs.declared.mode.Mode.{Mode}
 use Rattle.svr_request.specs.declared.refusal.Refusal.{Refusal}
 use Rattle.svr_request.specs.declared.refusal.Refusal.TheVariants as refusal
 use Rattle.svr_request.specs.declared.reply.Answer.{Answer}
-use Rattle.svr_request.specs.Requests.{Wanted, schema, insert, update, delete, search, merge, merge_begin, merge_slice, merge_publish}
+use Rattle.svr_csvload.specs.Blocks.{rows_in_block}
+use Rattle.svr_request.specs.Requests.{Submitted, Wanted, schema, insert, update, delete, load, search, merge, merge_begin, merge_slice, merge_publish}
 use Rattle.svr_rows.specs.declared.change.Change.{Change}
 use Rattle.svr_rows.specs.declared.change.Change.TheVariants.{Insert, Update, Delete}
 use Rattle.svr_rows.specs.declared.change.RowRefusal.{RowRefusal}
 use Rattle.svr_rows.specs.declared.change.RowRefusal.TheVariants as why
 use Rattle.svr_rows.specs.declared.row.Given.{Given}
 use Rattle.svr_rows.specs.declared.row.Row.{Row}
-use Rattle.svr_rows.specs.Changes.{changed, refusal_of}
+use Rattle.svr_rows.specs.Changes.{changed, inserted, load_refusal, refusal_of}
 use Rattle.svr_rows.specs.Rows.{bad_column, cell_in, kinds_in, no_rows}
 use Rattle.svr_schema.specs.declared.component.Component.{Component}
 use Rattle.svr_schema.specs.declared.component.Component.TheVariants.{Own, Over}
@@ -63,18 +64,18 @@ schema_outcome None d = by_rule (failing_rule d) d
 
 -- ---- changes
 
--- a refused row, in a request of its own
-abbrev pub row_refusal : RowRefusal → Refusal
-row_refusal why.NoTable = refusal.NoTable
-row_refusal (why.BadRow column) = refusal.BadRow column
-row_refusal (why.TextTooLong column) = refusal.TextTooLong None
-row_refusal why.KeyExists = refusal.KeyExists None
-row_refusal why.NoRow = refusal.NoRow
-row_refusal why.TableFull = refusal.TableFull None
-row_refusal why.TextFull = refusal.TextFull None
+-- a refused row, by its number where it is one of a load
+abbrev pub row_refusal : Option ℕ → RowRefusal → Refusal
+row_refusal n why.NoTable = refusal.NoTable
+row_refusal n (why.BadRow column) = refusal.BadRow column
+row_refusal n (why.TextTooLong column) = refusal.TextTooLong n
+row_refusal n why.KeyExists = refusal.KeyExists n
+row_refusal n why.NoRow = refusal.NoRow
+row_refusal n why.TableFull = refusal.TableFull n
+row_refusal n why.TextFull = refusal.TextFull n
 
 abbrev pub unless_refused : Option RowRefusal → Catalog → Outcome
-unless_refused (Some r) c = refused (row_refusal r)
+unless_refused (Some r) c = refused (row_refusal None r)
 unless_refused None c = changes_to c
 
 abbrev pub change_outcome : Catalog → Change → Outcome
@@ -97,6 +98,20 @@ abbrev pub in_table : Option ℕ → (ℕ → Outcome) → Outcome
 in_table None f = refused refusal.NoTable
 in_table (Some table) f = f table
 
+-- ---- loads
+
+abbrev pub unless_row_refused : Option (ℕ × RowRefusal) → Catalog → Outcome
+unless_row_refused (Some r) c = refused (row_refusal (Some r.0) r.1)
+unless_row_refused None c = changes_to c
+
+-- all rows of a block are inserted, one after the other, or none
+abbrev pub rows_outcome : Catalog → ℕ → Result (List Row) ℕ → Outcome
+rows_outcome c table (Err n) = refused (refusal.BadCsv n)
+rows_outcome c table (Ok rows) = unless_row_refused (load_refusal c.tables table rows) (record { schema = c.schema; tables = inserted c.tables table rows })
+
+abbrev pub load_outcome : Catalog → Bool → List ℕ → ℕ → Outcome
+load_outcome c header block table = rows_outcome c table (rows_in_block (kinds_in c.tables table) header block)
+
 -- ---- searches
 
 -- from 1 to 1,000
@@ -114,31 +129,41 @@ search_outcome c (t ∷ terms) m k = if nat_lt 16 (length (t ∷ terms)) then re
 
 -- ---- all requests
 
--- what needs a schema
-abbrev pub served_outcome : Catalog → Wanted → Outcome
-served_outcome c (insert table given) = in_table (table_at c.schema.tables table) (λ at. row_outcome c (λ row. Insert at row) at given)
-served_outcome c (update table given) = in_table (table_at c.schema.tables table) (λ at. row_outcome c (λ row. Update at row) at given)
-served_outcome c (delete table id) = in_table (table_at c.schema.tables table) (λ at. change_outcome c (Delete at id))
-served_outcome c (search query m k) = search_outcome c (tokens_of query) m k
-served_outcome c (schema d) = refused refusal.SchemaSet
-served_outcome c merge = refused refusal.UnknownOp
-served_outcome c merge_begin = refused refusal.UnknownOp
-served_outcome c (merge_slice terms) = refused refusal.UnknownOp
-served_outcome c merge_publish = refused refusal.UnknownOp
+abbrev pub insert_outcome : Catalog → List ℕ → List Given → Outcome
+insert_outcome c table given = in_table (table_at c.schema.tables table) (λ at. row_outcome c (λ row. Insert at row) at given)
 
-abbrev pub with_catalog : Option Catalog → Wanted → Outcome
-with_catalog None w = refused refusal.NoSchema
-with_catalog (Some c) w = served_outcome c w
+abbrev pub update_outcome : Catalog → List ℕ → List Given → Outcome
+update_outcome c table given = in_table (table_at c.schema.tables table) (λ at. row_outcome c (λ row. Update at row) at given)
+
+-- what needs a schema, with the block that comes with it
+abbrev pub served_outcome : Catalog → Wanted → List ℕ → Outcome
+served_outcome c (insert table given) block = insert_outcome c table given
+served_outcome c (update table given) block = update_outcome c table given
+served_outcome c (delete table id) block = in_table (table_at c.schema.tables table) (λ at. change_outcome c (Delete at id))
+served_outcome c (load table header) block = in_table (table_at c.schema.tables table) (load_outcome c header block)
+served_outcome c (search query m k) block = search_outcome c (tokens_of query) m k
+served_outcome c (schema d) block = refused refusal.SchemaSet
+served_outcome c merge block = refused refusal.UnknownOp
+served_outcome c merge_begin block = refused refusal.UnknownOp
+served_outcome c (merge_slice terms) block = refused refusal.UnknownOp
+served_outcome c merge_publish block = refused refusal.UnknownOp
+
+abbrev pub with_catalog : Option Catalog → Wanted → List ℕ → Outcome
+with_catalog None w block = refused refusal.NoSchema
+with_catalog (Some c) w block = served_outcome c w block
 
 -- merges aren't served as yet
-abbrev pub wanted_outcome : Option Catalog → Wanted → Outcome
-wanted_outcome c (schema d) = schema_outcome c d
-wanted_outcome c merge = refused refusal.UnknownOp
-wanted_outcome c merge_begin = refused refusal.UnknownOp
-wanted_outcome c (merge_slice terms) = refused refusal.UnknownOp
-wanted_outcome c merge_publish = refused refusal.UnknownOp
-wanted_outcome c w = with_catalog c w
+abbrev pub wanted_outcome : Option Catalog → Wanted → List ℕ → Outcome
+wanted_outcome c (schema d) block = schema_outcome c d
+wanted_outcome c merge block = refused refusal.UnknownOp
+wanted_outcome c merge_begin block = refused refusal.UnknownOp
+wanted_outcome c (merge_slice terms) block = refused refusal.UnknownOp
+wanted_outcome c merge_publish block = refused refusal.UnknownOp
+wanted_outcome c w block = with_catalog c w block
 
-unfoldable pub outcome_of : State → Result Wanted Refusal → Outcome
-outcome_of s (Err why) = refused why
-outcome_of s (Ok w) = wanted_outcome s.catalog w
+abbrev pub asked_outcome : Option Catalog → Result Wanted Refusal → List ℕ → Outcome
+asked_outcome c (Err why) block = refused why
+asked_outcome c (Ok w) block = wanted_outcome c w block
+
+unfoldable pub outcome_of : State → Submitted → Outcome
+outcome_of s p = asked_outcome s.catalog p.request p.block

@@ -1,11 +1,10 @@
 -- Replies to requests, one after the other.
-use Rattle.std.specs.Prelude.{◌≡◌, ◌⊎◌, ℕ, ◌+◌, Bool, true, false, List, [], ◌∷◌, flat_map, if◌then◌else◌, Some, Result}
-use Rattle.svr_request.specs.declared.refusal.Refusal.{Refusal}
+use Rattle.std.specs.Prelude.{◌≡◌, ◌⊎◌, ℕ, ◌+◌, Bool, true, false, List, [], ◌∷◌, flat_map, if◌then◌else◌, Some}
 use Rattle.svr_request.specs.declared.refusal.Refusal.TheVariants as refusal
 use Rattle.svr_request.specs.declared.reply.Reply.{Reply}
 use Rattle.svr_request.specs.declared.reply.Reply.TheVariants.{Accepted, Found, Refused}
 use Rattle.svr_request.specs.Replies.{text_of}
-use Rattle.svr_request.specs.Requests.{Wanted}
+use Rattle.svr_request.specs.Requests.{Submitted}
 use Rattle.svr_core.specs.Outcomes.{Outcome, refused, found, changes_to, outcome_of}
 use Rattle.svr_core.specs.State.{State}
 
@@ -22,14 +21,14 @@ state_by s (found answer) = s
 state_by s (changes_to c) = record { catalog = Some c; changes = s.changes + 1 }
 
 -- the reply to a request, and the state after it
-abbrev pub reply_to : State → Result Wanted Refusal → Reply
+abbrev pub reply_to : State → Submitted → Reply
 reply_to s request = reply_by s (outcome_of s request)
 
-abbrev pub state_after : State → Result Wanted Refusal → State
+abbrev pub state_after : State → Submitted → State
 state_after s request = state_by s (outcome_of s request)
 
 -- a request may be answered by its reply, or by want of memory, which changes nothing
-abbrev pub MayReply : State → Result Wanted Refusal → Reply → Type 0
+abbrev pub MayReply : State → Submitted → Reply → Type 0
 MayReply s request reply = (reply ≡ reply_to s request) ⊎ (reply ≡ Refused refusal.Memory)
 
 abbrev pub wants_memory : Reply → Bool
@@ -37,18 +36,18 @@ wants_memory (Refused refusal.Memory) = true
 wants_memory _ = false
 
 -- the state after a request that was answered so
-abbrev pub state_then : State → Result Wanted Refusal → Reply → State
+abbrev pub state_then : State → Submitted → Reply → State
 state_then s request reply = if wants_memory reply then s else state_after s request
 
 -- these are the replies to these requests, in order, from a state on
-abbrev pub IsRun : State → List (Result Wanted Refusal) → List Reply → Type 0
+abbrev pub IsRun : State → List Submitted → List Reply → Type 0
 IsRun s [] [] = Unit {0}
 IsRun s (request ∷ requests) (reply ∷ replies) = MayReply s request reply × IsRun (state_then s request reply) requests replies
 IsRun s [] (reply ∷ replies) = ⊥
 IsRun s (request ∷ requests) [] = ⊥
 
 -- the state after all of them
-abbrev pub state_in_end : State → List (Result Wanted Refusal) → List Reply → State
+abbrev pub state_in_end : State → List Submitted → List Reply → State
 state_in_end s [] replies = s
 state_in_end s (request ∷ requests) [] = s
 state_in_end s (request ∷ requests) (reply ∷ replies) = state_in_end (state_then s request reply) requests replies

@@ -1,14 +1,21 @@
 -- What the parts of the program answer, beside the outcome of a request.
-use Rattle.std.specs.Prelude.{◌≡◌, ◌⊎◌, ◌≤◌, ℕ, length, Option, Some}
+use Rattle.std.specs.Prelude.{◌≡◌, ◌⊎◌, ◌≤◌, ℕ, List, [], ◌∷◌, length, Option, Some, Result, Err}
 use Rattle.svr_request.specs.declared.refusal.Refusal.{Refusal}
 use Rattle.svr_request.specs.declared.refusal.Refusal.TheVariants as refusal
+use Rattle.svr_csvload.specs.declared.refusal.CsvRefusal.{CsvRefusal}
+use Rattle.svr_csvload.specs.declared.refusal.CsvRefusal.TheVariants as csv
+use Rattle.svr_rows.specs.declared.load.LoadRefusal.{LoadRefusal}
+use Rattle.svr_rows.specs.declared.load.LoadRefusal.TheVariants as load
+use Rattle.svr_rows.specs.declared.row.Row.{Row}
+use Rattle.svr_rows.specs.Changes.{with_rows}
+use Rattle.svr_rows.specs.Rows.{TableRows, rows_in, without_row}
 use Rattle.svr_schema.specs.declared.error.SchemaError.{SchemaError}
 use Rattle.svr_schema.specs.declared.error.SchemaError.TheVariants as error
 use Rattle.svr_tokens.specs.declared.query.QueryRefusal.{QueryRefusal}
 use Rattle.svr_tokens.specs.declared.query.QueryRefusal.TheVariants as query
 use Rattle.svr_core.specs.declared.catalog.Done.{Done}
 use Rattle.svr_core.specs.declared.catalog.Done.TheVariants.{Changed, Found}
-use Rattle.svr_core.specs.Outcomes.{Outcome, refused, found, changes_to}
+use Rattle.svr_core.specs.Outcomes.{Outcome, refused, found, changes_to, row_refusal}
 use Rattle.svr_core.specs.State.{Catalog}
 
 -- a refusal is that of the outcome, or want of memory
@@ -19,6 +26,14 @@ abbrev pub query_refusal : QueryRefusal → Refusal
 query_refusal query.NoTerms = refusal.NoTerms
 query_refusal query.TooManyTerms = refusal.TooManyTerms
 query_refusal query.Memory = refusal.Memory
+
+abbrev pub load_refusal : LoadRefusal → Refusal
+load_refusal (load.At n why) = row_refusal (Some n) why
+load_refusal load.Memory = refusal.Memory
+
+abbrev pub block_refusal : CsvRefusal → Refusal
+block_refusal (csv.Number n) = refusal.BadCsv n
+block_refusal csv.Memory = refusal.Memory
 
 abbrev pub schema_refusal : SchemaError → Refusal
 schema_refusal (error.Rule n) = refusal.BadSchema n
@@ -37,7 +52,20 @@ IsShort (Found answer) = length answer.hits ≤ 1000
 abbrev pub IsBadRow : Option ℕ → Refusal → Type 0
 IsBadRow bad why = ((column : ℕ) × (bad ≡ Some column) × (why ≡ refusal.BadRow column)) ⊎ (why ≡ refusal.Memory)
 
--- the same, where a catalog may be set
+-- a block's record makes no row, the one of this number, or memory is wanting
+abbrev pub IsBadRecord : Result (List Row) ℕ → Refusal → Type 0
+IsBadRecord rows why = ((n : ℕ) × (rows ≡ Err n) × (why ≡ refusal.BadCsv n)) ⊎ (why ≡ refusal.Memory)
+
+-- what was done is the outcome, where a catalog may be set
 abbrev pub IsServed : Outcome → Option Catalog → Option Catalog → Done → Type 0
 IsServed o before after Changed = (c : Catalog) × (o ≡ changes_to c) × (after ≡ Some c)
 IsServed o before after (Found answer) = (o ≡ found answer) × (after ≡ before)
+
+-- the tables without the row of this id
+abbrev pub without_id : List TableRows → ℕ → ℕ → List TableRows
+without_id tables at id = with_rows tables at (without_row (rows_in tables at) id)
+
+-- the tables without the rows of these ids, of which the last is taken out first
+unfoldable pub taken_out : List TableRows → ℕ → List ℕ → List TableRows
+taken_out tables at [] = tables
+taken_out tables at (id ∷ ids) = without_id (taken_out tables at ids) at id

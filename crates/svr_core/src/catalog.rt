@@ -1,11 +1,14 @@
 ghost use Rattle.std.specs.Prelude.{◌≡◌, ◌<◌, ◌≤◌, map, length, None, Some, IfOk, IfErr, OnOk, OnErr};
-ghost use Rattle.svr_request.specs.Requests.{insert, seen, update};
+ghost use Rattle.svr_request.specs.Requests.{seen};
+ghost use Rattle.svr_rows.specs.Changes.{changed, refusal_of};
 ghost use Rattle.svr_rows.specs.Rows.{bad_column, cell_in, kinds_in, kinds_of, no_rows};
 ghost use Rattle.svr_schema.specs.Lawful.{IsSchema, IsTable};
 ghost use Rattle.svr_schema.specs.Lookups.{table_at};
 ghost use Rattle.svr_tokens.specs.Tokens.{tokens_of};
-ghost use Rattle.svr_core.specs.Outcomes.{changes_to, change_outcome, found, k_of, row_of, search_outcome, served_outcome};
+ghost use Rattle.svr_core.specs.Outcomes.{changes_to, change_outcome, found, insert_outcome, k_of, row_of, search_outcome, served_outcome, update_outcome};
 ghost use Rattle.svr_core.specs.Steps.{IsBadRow, IsDone, IsShort, MayRefuse};
+
+mod load;
 
 use crate::document::Document;
 use crate::effect::{Effect, carry_out};
@@ -65,11 +68,12 @@ impl Catalog {
         })
     }
 
-    /// Does what a request asks for.
-    pub fn serve(&mut self, alloc: Global, request: Request) -> Result<Done, Refusal>
-        ensures done { IfOk result (IsDone (served_outcome self.old (seen request)) self.old self.new) }
+    /// Does what a request asks for, with the block that comes with it.
+    pub fn serve(&mut self, alloc: Global, request: Request, block: &[u8]) -> Result<Done, Refusal>
+        requires { length block.now ≤ 8388608 }
+        ensures done { IfOk result (IsDone (served_outcome self.old (seen request) block.now) self.old self.new) }
         ensures short { IfOk result IsShort }
-        ensures refused { IfErr result (MayRefuse (served_outcome self.old (seen request))) }
+        ensures refused { IfErr result (MayRefuse (served_outcome self.old (seen request) block.now)) }
         ensures err { OnErr result (self.new ≡ self.old) }
     {
         match request {
@@ -84,6 +88,11 @@ impl Catalog {
             Request::Delete { table, id } => {
                 let table = self.table(table.as_str())?;
                 self.change(alloc, Change::Delete { table, id })
+            }
+            Request::Load { table, header } => {
+                let table = self.table(table.as_str())?;
+                let rows = self.rows(alloc, table, header, block)?;
+                self.load(alloc, table, rows)
             }
             Request::Search { query, mode, k } => {
                 Ok(Done::Found(self.search(alloc, query.as_str(), mode, k)?))
@@ -105,6 +114,15 @@ impl Catalog {
         self.schema.table(name).ok_or(Refusal::NoTable)
     }
 
+    /// A table as the schema declares it.
+    fn declared(&self, table: u8) -> &Table
+        requires { table < length self.now.schema.tables }
+        ensures kinds { kinds_of result.now ≡ kinds_in self.now.tables table }
+        ensures lawful { IsTable result.now }
+    {
+        &self.schema.tables.as_slice()[table as usize]
+    }
+
     /// The row that values make in a table.
     fn row(&self, alloc: Global, table: u8, given: Items<Given>) -> Result<Row, Refusal>
         requires there { table < length self.now.schema.tables }
@@ -112,13 +130,13 @@ impl Catalog {
         ensures fits { OnOk result (bad_column (kinds_in self.now.tables table) (map cell_in given) ≡ None) }
         ensures refused { IfErr result (IsBadRow (bad_column (kinds_in self.now.tables table) (map cell_in given))) }
     {
-        row_in(alloc, &self.schema.tables.as_slice()[table as usize], given)
+        row_in(alloc, self.declared(table), given)
     }
 
     /// The insert of a row that values make.
     fn insertion(&self, alloc: Global, name: &str, given: Items<Given>) -> Result<Change, Refusal>
-        ensures change { IfOk result (λ change. served_outcome self.now (insert name.now given) ≡ change_outcome self.now change) }
-        ensures refused { IfErr result (MayRefuse (served_outcome self.now (insert name.now given))) }
+        ensures change { IfOk result (λ change. insert_outcome self.now name.now given ≡ change_outcome self.now change) }
+        ensures refused { IfErr result (MayRefuse (insert_outcome self.now name.now given)) }
     {
         let table = self.table(name)?;
         let row = self.row(alloc, table, given)?;
@@ -127,8 +145,8 @@ impl Catalog {
 
     /// The update of a row to the one that values make.
     fn replacement(&self, alloc: Global, name: &str, given: Items<Given>) -> Result<Change, Refusal>
-        ensures change { IfOk result (λ change. served_outcome self.now (update name.now given) ≡ change_outcome self.now change) }
-        ensures refused { IfErr result (MayRefuse (served_outcome self.now (update name.now given))) }
+        ensures change { IfOk result (λ change. update_outcome self.now name.now given ≡ change_outcome self.now change) }
+        ensures refused { IfErr result (MayRefuse (update_outcome self.now name.now given)) }
     {
         let table = self.table(name)?;
         let row = self.row(alloc, table, given)?;
@@ -142,10 +160,21 @@ impl Catalog {
         ensures refused { IfErr result (MayRefuse (change_outcome self.old change)) }
         ensures err { OnErr result (self.new ≡ self.old) }
     {
-        self.tables.check(&change).map_err(refused_row)?;
-        let effect = Effect::of(alloc, &self.schema, &change)?;
-        carry_out(&mut self.documents, &mut self.tables, change, effect)?;
+        self.tables
+            .check(&change)
+            .map_err(|why| refused_row(None, why))?;
+        self.make(alloc, change)?;
         Ok(Done::Changed)
+    }
+
+    /// Makes a change that no row refuses, or does nothing.
+    fn make(&mut self, alloc: Global, change: Change) -> Result<(), Memory>
+        requires { refusal_of self.old.tables change ≡ None }
+        ensures changed { OnOk result (self.new ≡ record { schema = self.old.schema; tables = changed self.old.tables change }) }
+        ensures err { OnErr result (self.new ≡ self.old) }
+    {
+        let effect = Effect::of(alloc, &self.schema, &change)?;
+        carry_out(&mut self.documents, &mut self.tables, change, effect)
     }
 
     /// The best `k` documents that match a query.

@@ -1,11 +1,14 @@
-ghost use Rattle.std.specs.Prelude.{◌≡◌, None, IsSome, IfOk, OnOk, OnErr};
+ghost use Rattle.std.specs.Prelude.{◌≡◌, ◌<◌, length, None, IsSome, IfOk, OnOk, OnErr, if◌then◌else◌};
+ghost use Rattle.std.specs.List.{All};
 ghost use Rattle.std.specs.BTreeMap.{insert_entry, is_at};
 ghost use Rattle.std.specs.Map.{lookup, remove_entry};
 ghost use Rattle.std.specs.Ordering.{nat_cmp};
 ghost use Rattle.svr_rows.specs.Changes.{changed, refusal_of};
+ghost use Rattle.svr_rows.specs.Kept.{IsTableRows};
 ghost use Rattle.svr_schema.specs.Lawful.{IsSchema};
 ghost use Rattle.svr_core.specs.Documents.{Suits, after_effect, effect_of};
 ghost use Rattle.svr_core.specs.Changing.{RowHasId};
+ghost use Rattle.svr_core.specs.Steps.{without_id};
 
 use crate::document::Document;
 use std::alloc::Global;
@@ -56,6 +59,7 @@ fn add(
     ensures documents { OnOk result
         (documents.new.entries ≡ insert_entry nat_cmp documents.old.entries document.id document) }
     ensures tables_err { OnErr result (tables.new ≡ tables.old) }
+    ensures lawful { OnOk result (All IsTableRows tables.new) }
     ensures documents_err { OnErr result (documents.new.entries ≡ documents.old.entries) }
 {
     let id = document.id;
@@ -80,6 +84,7 @@ fn replace(
     ensures documents { OnOk result
         (documents.new.entries ≡ insert_entry nat_cmp documents.old.entries document.id document) }
     ensures tables_err { OnErr result (tables.new ≡ tables.old) }
+    ensures lawful { OnOk result (All IsTableRows tables.new) }
     ensures documents_err { OnErr result (documents.new.entries ≡ documents.old.entries) }
 {
     tables.apply(change)?;
@@ -99,6 +104,7 @@ fn remove(
     ensures tables { OnOk result (tables.new ≡ changed tables.old change) }
     ensures documents { OnOk result (documents.new.entries ≡ remove_entry (is_at (nat_cmp id)) documents.old.entries) }
     ensures tables_err { OnErr result (tables.new ≡ tables.old) }
+    ensures lawful { OnOk result (All IsTableRows tables.new) }
     ensures documents_err { OnErr result (documents.new.entries ≡ documents.old.entries) }
 {
     tables.apply(change)?;
@@ -118,6 +124,7 @@ pub fn carry_out(
     ensures tables { OnOk result (tables.new ≡ changed tables.old change) }
     ensures documents { OnOk result (documents.new.entries ≡ after_effect effect documents.old.entries) }
     ensures tables_err { OnErr result (tables.new ≡ tables.old) }
+    ensures lawful { OnOk result (All IsTableRows tables.new) }
     ensures documents_err { OnErr result (documents.new.entries ≡ documents.old.entries) }
 {
     match effect {
@@ -128,5 +135,25 @@ pub fn carry_out(
         Effect::Add(document) => add(documents, tables, document, change),
         Effect::Replace(document) => replace(documents, tables, document, change),
         Effect::Remove(id) => remove(documents, tables, id, change),
+    }
+}
+
+/// Takes out the row with the id, and its document if it is one.
+pub fn take_out(
+    documents: &mut BTreeMap<DocId, Document>,
+    tables: &mut Tables,
+    table: u8,
+    id: DocId,
+    is_document: bool,
+)
+    requires { table < length tables.old }
+    ensures tables { tables.new ≡ without_id tables.old table id }
+    ensures lawful { All IsTableRows tables.new }
+    ensures documents { documents.new.entries
+        ≡ after_effect (if is_document then Effect.Remove id else Effect.Nothing) documents.old.entries }
+{
+    tables.remove(table, id);
+    if is_document {
+        documents.remove(&id);
     }
 }

@@ -1,24 +1,43 @@
 ghost use Rattle.std.specs.Prelude.{◌≡◌};
 ghost use Rattle.svr_core.specs.Outcomes.{row_refusal};
-ghost use Rattle.svr_core.specs.Steps.{query_refusal, schema_refusal};
+ghost use Rattle.svr_core.specs.Steps.{block_refusal, load_refusal, query_refusal, schema_refusal};
 
+use svr_csvload::CsvRefusal;
 use svr_request::Refusal;
-use svr_rows::RowRefusal;
+use svr_rows::{LoadRefusal, RowRefusal};
 use svr_schema::SchemaError;
 use svr_tokens::QueryRefusal;
 
-/// The refusal of a row in a request of its own.
-pub fn refused_row(why: RowRefusal) -> Refusal
-    ensures { result ≡ row_refusal why }
+/// The refusal of a row, by its number where it is one of a load.
+pub fn refused_row(number: Option<u32>, why: RowRefusal) -> Refusal
+    ensures { result ≡ row_refusal number why }
 {
     match why {
         RowRefusal::NoTable => Refusal::NoTable,
         RowRefusal::BadRow { column } => Refusal::BadRow { column },
-        RowRefusal::TextTooLong { .. } => Refusal::TextTooLong { number: None },
-        RowRefusal::KeyExists => Refusal::KeyExists { number: None },
+        RowRefusal::TextTooLong { .. } => Refusal::TextTooLong { number },
+        RowRefusal::KeyExists => Refusal::KeyExists { number },
         RowRefusal::NoRow => Refusal::NoRow,
-        RowRefusal::TableFull => Refusal::TableFull { number: None },
-        RowRefusal::TextFull => Refusal::TextFull { number: None },
+        RowRefusal::TableFull => Refusal::TableFull { number },
+        RowRefusal::TextFull => Refusal::TextFull { number },
+    }
+}
+
+pub fn refused_load(why: LoadRefusal) -> Refusal
+    ensures { result ≡ load_refusal why }
+{
+    match why {
+        LoadRefusal::At { number, why } => refused_row(Some(number), why),
+        LoadRefusal::Memory => Refusal::Memory,
+    }
+}
+
+pub fn refused_block(why: CsvRefusal) -> Refusal
+    ensures { result ≡ block_refusal why }
+{
+    match why {
+        CsvRefusal::Number(number) => Refusal::BadCsv { number },
+        CsvRefusal::Memory => Refusal::Memory,
     }
 }
 

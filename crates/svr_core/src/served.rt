@@ -1,8 +1,8 @@
-ghost use Rattle.std.specs.Prelude.{◌≡◌, ◌+◌, ◌<◌, ◌^◌, map, false, IfOk, IfErr, OnOk, OnErr};
+ghost use Rattle.std.specs.Prelude.{◌≡◌, ◌+◌, ◌<◌, ◌≤◌, ◌^◌, map, false, length, IfOk, IfErr, OnOk, OnErr};
 ghost use Rattle.std.specs.List.{list_all};
 ghost use Rattle.serde_json.specs.View.{view};
 ghost use Rattle.svr_request.specs.Replies.{IsPrintable};
-ghost use Rattle.svr_request.specs.Requests.{seen, seen_or_refused};
+ghost use Rattle.svr_request.specs.Requests.{seen, seen_or_refused, with_block};
 ghost use Rattle.svr_rows.specs.Rows.{no_rows};
 ghost use Rattle.svr_core.specs.Outcomes.{changes_to, is_own, is_plain, outcome_of, refused, schema_outcome, served_so_far, wanted_outcome};
 ghost use Rattle.svr_core.specs.Run.{MayReply, reply_to, state_after, state_then, wants_memory};
@@ -50,14 +50,20 @@ impl Core {
         self.changes
     }
 
-    /// Answers a request. Want of memory changes nothing.
-    pub fn answer(&mut self, alloc: Global, request: Result<Request, Refusal>) -> Reply
-        requires { self.old.changes + 1 < 2 ^ 64 }
-        ensures reply { MayReply self.old (seen_or_refused request) result }
-        ensures state { self.new ≡ state_then self.old (seen_or_refused request) result }
+    /// Answers a request, with the block that comes with it. Want of memory changes nothing.
+    pub fn answer(
+        &mut self,
+        alloc: Global,
+        request: Result<Request, Refusal>,
+        block: &[u8],
+    ) -> Reply
+        requires changes { self.old.changes + 1 < 2 ^ 64 }
+        requires few { length block.now ≤ 8388608 }
+        ensures reply { MayReply self.old (with_block (seen_or_refused request) block.now) result }
+        ensures state { self.new ≡ state_then self.old (with_block (seen_or_refused request) block.now) result }
         ensures printable { IsPrintable result }
     {
-        match self.reply(alloc, request) {
+        match self.reply(alloc, request, block) {
             Ok(reply) => reply,
             Err(why) => Reply::Refused(why),
         }
@@ -65,16 +71,22 @@ impl Core {
 
     /// The reply to a request that isn't refused.
     #[tactic(auto, unfolding(crate::specs::Outcomes::outcome_of))]
-    fn reply(&mut self, alloc: Global, request: Result<Request, Refusal>) -> Result<Reply, Refusal>
-        requires { self.old.changes + 1 < 2 ^ 64 }
-        ensures reply { IfOk result (λ reply. reply ≡ reply_to self.old (seen_or_refused request)) }
-        ensures state { OnOk result (self.new ≡ state_after self.old (seen_or_refused request)) }
+    fn reply(
+        &mut self,
+        alloc: Global,
+        request: Result<Request, Refusal>,
+        block: &[u8],
+    ) -> Result<Reply, Refusal>
+        requires changes { self.old.changes + 1 < 2 ^ 64 }
+        requires few { length block.now ≤ 8388608 }
+        ensures reply { IfOk result (λ reply. reply ≡ reply_to self.old (with_block (seen_or_refused request) block.now)) }
+        ensures state { OnOk result (self.new ≡ state_after self.old (with_block (seen_or_refused request) block.now)) }
         ensures accepting { IfOk result (λ reply. wants_memory reply ≡ false) }
         ensures printable { IfOk result IsPrintable }
-        ensures refused { IfErr result (MayRefuse (outcome_of self.old (seen_or_refused request))) }
+        ensures refused { IfErr result (MayRefuse (outcome_of self.old (with_block (seen_or_refused request) block.now))) }
         ensures err { OnErr result (self.new ≡ self.old) }
     {
-        match self.serve(alloc, request?)? {
+        match self.serve(alloc, request?, block)? {
             Done::Found(answer) => Ok(Reply::Found(answer)),
             Done::Changed => {
                 self.changes += 1;
@@ -84,11 +96,12 @@ impl Core {
     }
 
     /// Does what a request asks for, and counts no change.
-    fn serve(&mut self, alloc: Global, request: Request) -> Result<Done, Refusal>
-        ensures done { IfOk result (IsServed (wanted_outcome self.old.catalog (seen request)) self.old.catalog self.new.catalog) }
+    fn serve(&mut self, alloc: Global, request: Request, block: &[u8]) -> Result<Done, Refusal>
+        requires { length block.now ≤ 8388608 }
+        ensures done { IfOk result (IsServed (wanted_outcome self.old.catalog (seen request) block.now) self.old.catalog self.new.catalog) }
         ensures short { IfOk result IsShort }
         ensures changes { self.new.changes ≡ self.old.changes }
-        ensures refused { IfErr result (MayRefuse (wanted_outcome self.old.catalog (seen request))) }
+        ensures refused { IfErr result (MayRefuse (wanted_outcome self.old.catalog (seen request) block.now)) }
         ensures err { OnErr result (self.new ≡ self.old) }
     {
         match request {
@@ -101,7 +114,7 @@ impl Core {
                 let Some(catalog) = &mut self.catalog else {
                     return Err(Refusal::NoSchema);
                 };
-                catalog.serve(alloc, request)
+                catalog.serve(alloc, request, block)
             }
         }
     }

@@ -157,15 +157,18 @@ records_from-same cfg (suc n) (suc m) s xs b h k = step-same cfg n m s xs (next_
     (λ p e. let less = shorter cfg s [] [] xs p b e in
     records_from-same cfg n m p.1 p.2 (read-leaves cfg s [] [] xs p e).between (omega (arith, less)) (omega (arith, less)))
 
-few-step : (cfg : Config) (n : ℕ) (o : Option Read) → ((p : Read) → length (records_from cfg n p.1 p.2) ≤ n)
-    → length (records_next (records_from cfg n) o) ≤ suc n
-few-step cfg n None h = omega arith
-few-step cfg n (Some p) h = let k = h p in omega arith
+few-step : (cfg : Config) (n : ℕ) (xs : List ℕ) (o : Option Read) → ((p : Read) → o ≡ Some p → length (records_from cfg n p.1 p.2) < length xs)
+    → length (records_next (records_from cfg n) o) ≤ length xs
+few-step cfg n xs None h = omega arith
+few-step cfg n xs (Some p) h = let k = h p refl in omega arith
 
-few_records : (cfg : Config) (n : ℕ) (s : State) (xs : List ℕ) → length (records_from cfg n s xs) ≤ n
+-- at most one record for each byte
+few_records : (cfg : Config) (n : ℕ) (s : State) (xs : List ℕ) → ends_at_end s ≡ false → length (records_from cfg n s xs) ≤ length xs
 unfolding records_from
-few_records cfg zero s xs = omega arith
-few_records cfg (suc n) s xs = few-step cfg n (next_record cfg s [] [] xs) (λ p. few_records cfg n p.1 p.2)
+few_records cfg zero s xs b = omega arith
+few_records cfg (suc n) s xs b = few-step cfg n xs (next_record cfg s [] [] xs)
+    (λ p e. let less = shorter cfg s [] [] xs p b e in
+    let more = few_records cfg n p.1 p.2 (read-leaves cfg s [] [] xs p e).between in omega (arith, less, more))
 
 strip_bom-no_longer : (xs : List ℕ) → length (strip_bom xs) ≤ length xs
 unfolding strip_bom
@@ -178,6 +181,6 @@ strip_bom-no_longer (a ∷ b ∷ c ∷ rest) =
       | false ↦ omega arith
     ]
 
-pub few_records_of : (cfg : Config) (n : ℕ) (xs : List ℕ) → length xs ≤ n → length (records cfg (strip_bom xs)) ≤ n + 1
-few_records_of cfg n xs h =
-    omega (arith, few_records cfg (length (strip_bom xs) + 1) state.StartRecord (strip_bom xs), strip_bom-no_longer xs)
+pub few_records_of : (cfg : Config) (xs : List ℕ) → length (records cfg (strip_bom xs)) ≤ length xs
+few_records_of cfg xs =
+    omega (arith, few_records cfg (length (strip_bom xs) + 1) state.StartRecord (strip_bom xs) refl, strip_bom-no_longer xs)

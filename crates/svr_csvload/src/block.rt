@@ -30,6 +30,7 @@ pub fn read_block(
     requires few { length bytes.now ≤ 8388608 }
     ensures rows { IfOk result (λ rows. rows_in_block (kinds_of table.now) header bytes.now ≡ Ok rows.items) }
     ensures fit { IfOk result (λ rows. All (IsRowOf (kinds_of table.now)) rows.items) }
+    ensures few { IfOk result (λ rows. length rows.items ≤ 8388608) }
     ensures number { IfErr result (λ why. (n : ℕ) → why ≡ CsvRefusal.Number n
         → rows_in_block (kinds_of table.now) header bytes.now ≡ Err n) }
 {
@@ -47,9 +48,10 @@ fn read_rows(
     reader: &mut Reader<&[u8]>,
 ) -> Result<Vec<Row>, CsvRefusal>
     requires between { IsBetween reader.old }
-    requires few { length (ahead reader.old) ≤ 8388609 }
+    requires few { length (ahead reader.old) ≤ 8388608 }
     ensures rows { IfOk result (λ rows. rows_in (map (λ c. c.kind) columns.now) (ahead reader.old) ≡ Ok rows.items) }
     ensures fit { IfOk result (λ rows. All (IsRowOf (map (λ c. c.kind) columns.now)) rows.items) }
+    ensures few { IfOk result (λ rows. length rows.items ≤ 8388608) }
     ensures number { IfErr result (λ why. (n : ℕ) → why ≡ CsvRefusal.Number n
         → rows_in (map (λ c. c.kind) columns.now) (ahead reader.old) ≡ Err n) }
 {

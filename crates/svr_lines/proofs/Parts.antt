@@ -1,11 +1,20 @@
 -- A counted block, taken part by part.
-use Rattle.std.proofs.Common.{◌≡◌, ℕ, ◌-◌, ◌<◌, ◌≤◌, min, Bool, true, List, [], ◌++◌, length, take, refl, sym, ap, ◌∙◌, arith, append-nil, length-append, Option}
+use Rattle.std.proofs.Common.{◌≡◌, ℕ, ◌-◌, ◌<◌, ◌≤◌, min, Bool, true, false, cond, List, [], ◌++◌, length, take, refl, sym, ap, ◌∙◌, arith, append-nil, length-append, Option}
 use Rattle.std.proofs.lemmas.List.{length-take-le, drop_all}
 use Rattle.std.proofs.KnownBytes.{Consumes-nil}
 use Rattle.svr_lines.specs.Pieces.{StopsInBlock}
 use Rattle.svr_lines.specs.Reading.{Reading, Reads}
 use Rattle.svr_lines.specs.Steps.{Passes, TakesPart}
 use Rattle.svr_lines.proofs.Stream.{Reads-then, Reads-as, passes_front, taken_bytes-reads}
+
+nothing_kept : (kept : Bool) → ◌≡◌ {A = List ℕ} [] (cond kept [] [])
+nothing_kept true = refl
+nothing_kept false = refl
+
+kept_more : (kept : Bool) (before after gone part : List ℕ) → before ≡ cond kept gone [] → after ≡ cond kept (before ++ part) before
+    → after ≡ cond kept (gone ++ part) []
+kept_more true before after gone part h k = k ∙ ap (λ xs. xs ++ part) h
+kept_more false before after gone part h k = k ∙ h
 
 -- the block was cleared
 pub part_none : (a : Option (List ℕ)) (old new : Reading) (size : ℕ) (kept : Bool) → new ≡ record old { block = [] }
@@ -18,19 +27,19 @@ part_none a old new size kept cleared = record {
     limit = ap (λ r. r.limit) cleared;
   };
   count = omega arith;
-  block = λ _. ap (λ r. r.block) cleared;
+  block = ap (λ r. r.block) cleared ∙ nothing_kept kept;
 }
 
 -- a part of what is ahead
 pub part_more : (a b : Option (List ℕ)) (old mid new : Reading) (size missing n : ℕ) (kept : Bool) (gone bytes : List ℕ)
     → TakesPart a b old mid size missing kept gone bytes
-    → n ≡ min missing (length mid.ahead) → Passes mid new n → (kept ≡ true → new.block ≡ mid.block ++ take n mid.ahead)
+    → n ≡ min missing (length mid.ahead) → Passes mid new n → new.block ≡ cond kept (mid.block ++ take n mid.ahead) mid.block
     → TakesPart a b old new size (missing - n) kept (gone ++ take n mid.ahead) bytes
 part_more a b old mid new size missing n kept gone bytes t count p block =
     let few : n ≤ length mid.ahead = omega arith in record {
       reads = passes_front a b old mid new gone bytes n t.reads few p;
       count = omega (arith, t.count, count, length-append gone (take n mid.ahead), length-take-le n mid.ahead few);
-      block = λ is. block is ∙ ap (λ xs. xs ++ take n mid.ahead) (t.block is);
+      block = kept_more kept mid.block new.block gone (take n mid.ahead) t.block block;
     }
 
 -- where bytes are missing, nothing is ahead
@@ -45,7 +54,7 @@ pub part_read : (a b c : Option (List ℕ)) (old mid new : Reading) (size missin
 part_read a b c old mid new size missing kept gone bytes more t p block = record {
   reads = Reads-as a c old new _ _ _ _ (append-nil gone) refl (Reads-then a b c old mid new gone [] bytes more t.reads p);
   count = t.count;
-  block = λ is. block ∙ t.block is;
+  block = block ∙ t.block;
 }
 
 -- the bytes that were taken are fewer than the block's, where bytes are missing and nothing is ahead

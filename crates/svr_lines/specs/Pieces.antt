@@ -52,7 +52,7 @@ pub record StopsInLine (before after : Option (List ℕ)) (old new : Reading) (b
 -- how a block of so many bytes ended, which are the gone ones
 abbrev pub TakesBlock : BlockEnd → ℕ → List ℕ → Reading → Option (List ℕ) → Type 0
 TakesBlock block.Whole size gone new left = (length gone ≡ size) × (size ≤ 8388608) × (new.block ≡ gone)
-TakesBlock block.Dropped size gone new left = (length gone ≡ size) × (8388608 < size)
+TakesBlock block.Dropped size gone new left = (length gone ≡ size) × (8388608 < size) × (new.block ≡ [])
 TakesBlock block.Cut size gone new left = (length gone < size) × IsLast new left
 
 -- how a block of so many bytes ends that begins at the end of the input

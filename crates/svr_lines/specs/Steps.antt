@@ -1,5 +1,5 @@
 -- Steps of a reader of lines, of which its public calls are made.
-use Rattle.std.specs.Prelude.{◌≡◌, ◌⊎◌, ℕ, ◌+◌, ◌<◌, ◌≤◌, Bool, true, false, List, [], ◌∷◌, ◌++◌, length, drop, Option, Result, MatchResult}
+use Rattle.std.specs.Prelude.{◌≡◌, ◌⊎◌, ℕ, ◌+◌, ◌<◌, ◌≤◌, Bool, false, List, [], ◌∷◌, ◌++◌, length, drop, if◌then◌else◌, Option, Result, MatchResult}
 use Rattle.std.specs.List.{list_all}
 use Rattle.std.specs.Io.KnownBytes.{Consumes}
 use Rattle.svr_lines.specs.declared.lines.Piece.{Piece}
@@ -65,9 +65,9 @@ pub record SkipsLines (before after : Option (List ℕ)) (old new : Reading) (go
   pub none : pieces_of gone ≡ []
   pub whole : new.ended ≡ false → IsWholeLines gone
 
--- gone is the beginning of a block of which so many bytes are missing, and the bytes that are kept
+-- gone is the beginning of a block of which so many bytes are missing, and where the block is kept these are its bytes so far
 pub record TakesPart (before after : Option (List ℕ)) (old new : Reading) (size missing : ℕ) (kept : Bool)
     (gone bytes : List ℕ) : Type 0 where
   pub reads : Reads before after old new gone bytes
   pub count : length gone + missing ≡ size
-  pub block : kept ≡ true → new.block ≡ gone
+  pub block : new.block ≡ (if kept then gone else [])

@@ -1,10 +1,10 @@
 -- What a line asks for.
-use Rattle.std.specs.Prelude.{ℕ, ℤ, pos, ◌^◌, ◌&&◌, Bool, List, [], ◌∷◌, map, nat_lt, nat_le, codes, if◌then◌else◌, Option, Some, None, option_and_then, option_map, Result, Ok, Err, ok_or}
+use Rattle.std.specs.Prelude.{ℕ, ℤ, pos, ◌^◌, ◌&&◌, Bool, false, List, [], ◌∷◌, map, nat_lt, nat_le, codes, if◌then◌else◌, Option, Some, None, option_and_then, option_map, Result, Ok, Err, ok_or}
 use Rattle.std.specs.Str.{is_utf8, bytes_eq}
 use Rattle.serde_json.specs.Data.{Data, number, string, Items}
 use Rattle.serde_json.specs.Read.{read}
 use Rattle.serde_json.specs.View.{view}
-use Rattle.serde_json.specs.Find.{get, as_array, as_str, as_number, as_u64, as_i64, as_integer}
+use Rattle.serde_json.specs.Find.{get, as_array, as_bool, as_str, as_number, as_u64, as_i64, as_integer}
 use Rattle.svr_json.specs.Parts.{items_in, has_only, text_of}
 use Rattle.svr_num.specs.declared.mode.Mode.{Mode}
 use Rattle.svr_num.specs.declared.mode.Mode.TheVariants as mode
@@ -15,12 +15,13 @@ use Rattle.svr_request.specs.declared.refusal.Refusal.TheVariants.{NotJson, Unkn
 use Rattle.svr_request.specs.declared.request.Request.{Request}
 use Rattle.svr_request.specs.declared.request.Request.TheVariants as request
 
--- a request, with a JSON value seen as its data
+-- a request without its block, with a JSON value seen as its data
 pub data Wanted : Type 0 where
   schema : Data → Wanted
   insert : List ℕ → List Given → Wanted
   update : List ℕ → List Given → Wanted
   delete : List ℕ → ℕ → Wanted
+  load : List ℕ → Bool → Wanted
   search : List ℕ → Mode → ℤ → Wanted
   merge : Wanted
   merge_begin : Wanted
@@ -32,6 +33,7 @@ seen (request.Schema value) = schema (view value)
 seen (request.Insert table row) = insert table row
 seen (request.Update table row) = update table row
 seen (request.Delete table id) = delete table id
+seen (request.Load table header) = load table header
 seen (request.Search query m k) = search query m k
 seen request.Merge = merge
 seen request.MergeBegin = merge_begin
@@ -124,6 +126,25 @@ delete_in d = do
   table ← text_of (codes "table") form
   Some (delete table id)
 
+-- how many bytes a load says that its block has: a whole number from 0 to 2^64 - 1
+abbrev pub bytes_in : Data → Option ℕ
+bytes_in d = get (codes "bytes") d >>= as_number >>= as_u64
+
+-- true or false; false, where there is none
+abbrev pub header_in : Option Data → Option Bool
+header_in None = Some false
+header_in (Some d) = as_bool d
+
+-- a load of a block of at most 8,388,608 bytes
+abbrev pub load_in : Data → Option Wanted
+load_in d = do
+  form ← only_if (has_only (codes "bytes" ∷ codes "header" ∷ codes "op" ∷ codes "table" ∷ []) d) d
+  size ← bytes_in form
+  short ← only_if (nat_le size 8388608) form
+  header ← header_in (get (codes "header") short)
+  table ← text_of (codes "table") short
+  Some (load table header)
+
 abbrev pub search_in : Data → Option Wanted
 search_in d = do
   form ← only_if (has_only (codes "k" ∷ codes "mode" ∷ codes "op" ∷ codes "query" ∷ []) d) d
@@ -149,6 +170,7 @@ wanted_by op d =
     else if bytes_eq op (codes "insert") then Some (insert_in d)
     else if bytes_eq op (codes "update") then Some (update_in d)
     else if bytes_eq op (codes "delete") then Some (delete_in d)
+    else if bytes_eq op (codes "load") then Some (load_in d)
     else if bytes_eq op (codes "search") then Some (search_in d)
     else if bytes_eq op (codes "merge") then Some (alone_in merge d)
     else if bytes_eq op (codes "merge-begin") then Some (alone_in merge_begin d)
@@ -171,3 +193,24 @@ asked (Some d) = asked_of d
 -- what a line asks for, or why it is refused
 unfoldable pub request_of : List ℕ → Result Wanted Refusal
 request_of line = asked (parsed line)
+
+-- ---- the block behind a line
+
+abbrev pub block_by : List ℕ → Data → Option ℕ
+block_by op d = if bytes_eq op (codes "load") then bytes_in d else None
+
+-- how many bytes of a block follow a value: those that a load says, whatever else is wrong with it
+abbrev pub block_in : Data → Option ℕ
+block_in d = text_of (codes "op") d >>= λ op. block_by op d
+
+-- how many bytes of a block follow a line, if one follows
+unfoldable pub block_of : List ℕ → Option ℕ
+block_of line = parsed line >>= block_in
+
+-- a request, or why the line is none, with the block behind the line; no bytes where there is no block
+pub record Submitted : Type 0 where
+  pub request : Result Wanted Refusal
+  pub block : List ℕ
+
+abbrev pub with_block : Result Wanted Refusal → List ℕ → Submitted
+with_block request block = record { request = request; block = block }

@@ -1,10 +1,10 @@
 ghost use Rattle.std.specs.Prelude.{◌≡◌, IfOk, ok_or, option_map};
 ghost use Rattle.serde_json.specs.View.{view};
-ghost use Rattle.svr_request.specs.Requests.{alone_in, asked_of, delete_in, id_in, insert_in, k_in, merge_slice_in, mode_in, request_of, schema_in, search_in, seen, seen_or_refused, table_and_row_in, terms_in, update_in};
+ghost use Rattle.svr_request.specs.Requests.{alone_in, asked_of, block_in, block_of, bytes_in, delete_in, header_in, id_in, insert_in, k_in, load_in, merge_slice_in, mode_in, request_of, schema_in, search_in, seen, seen_or_refused, table_and_row_in, terms_in, update_in};
 
 use crate::members::{take_member, take_table_and_row, take_text};
 use crate::refusal::Refusal;
-use crate::request::{HITS_BY_DEFAULT, Request};
+use crate::request::{Asked, HITS_BY_DEFAULT, Request};
 use serde_json::Value;
 use std::alloc::Global;
 use svr_edge::{Items, Memory, Text};
@@ -14,6 +14,9 @@ use svr_rows::Given;
 
 /// The ids of rows are below this number.
 const ID_END: u64 = 1 << 63;
+
+/// The longest block of a load, in bytes.
+const BLOCK_BYTES: u64 = 8_388_608;
 
 /// The most terms of one step of a merge.
 const MOST_TERMS: u64 = 1_000;
@@ -33,6 +36,21 @@ fn read_terms(value: &Value) -> Option<u32>
     match value.get("terms")?.as_u64() {
         Some(terms) if 1 <= terms && terms <= MOST_TERMS => Some(terms as u32),
         _ => None,
+    }
+}
+
+fn read_bytes(value: &Value) -> Option<u64>
+    ensures { result ≡ bytes_in (view value.now) }
+{
+    value.get("bytes")?.as_u64()
+}
+
+fn read_header(value: Option<&Value>) -> Option<bool>
+    ensures { result ≡ header_in (option_map (λ v. view v.now) value.entry) }
+{
+    match value {
+        Some(value) => value.as_bool(),
+        None => Some(false),
     }
 }
 
@@ -106,6 +124,20 @@ fn delete_request(value: Value) -> Option<Request>
     Some(Request::Delete { table, id })
 }
 
+fn load_request(value: Value) -> Option<Request>
+    ensures { option_map seen result ≡ load_in (view value) }
+{
+    if !has_only(&value, &["bytes", "header", "op", "table"]) {
+        return None;
+    }
+    if read_bytes(&value)? > BLOCK_BYTES {
+        return None;
+    }
+    let header = read_header(value.get("header"))?;
+    let table = take_text(value, "table")?;
+    Some(Request::Load { table, header })
+}
+
 fn search_request(value: Value) -> Option<Request>
     ensures { option_map seen result ≡ search_in (view value) }
 {
@@ -155,6 +187,7 @@ fn request_in(alloc: Global, value: Value) -> Result<Result<Request, Refusal>, M
         Some("insert") => Ok(shaped(insert_request(alloc, value)?)),
         Some("update") => Ok(shaped(update_request(alloc, value)?)),
         Some("delete") => Ok(shaped(delete_request(value))),
+        Some("load") => Ok(shaped(load_request(value))),
         Some("search") => Ok(shaped(search_request(value))),
         Some("merge") => Ok(shaped(alone(&value, Request::Merge))),
         Some("merge-begin") => Ok(shaped(alone(&value, Request::MergeBegin))),
@@ -164,18 +197,35 @@ fn request_in(alloc: Global, value: Value) -> Result<Result<Request, Refusal>, M
     }
 }
 
-/// Reads a line as a request, or says why it is refused: `NotJson`, `UnknownOp` or `BadShape`.
-pub fn read_request(alloc: Global, line: &[u8]) -> Result<Result<Request, Refusal>, Memory>
-    ensures { IfOk result (λ asked. seen_or_refused asked ≡ request_of line.now) }
+/// How many bytes of a block follow a value, if one follows.
+fn read_block_size(value: &Value) -> Option<u64>
+    ensures { result ≡ block_in (view value.now) }
+{
+    match text_at(value, "op")? {
+        "load" => read_bytes(value),
+        _ => None,
+    }
+}
+
+/// Reads a line as a request, and tells whether a block follows it: one does where it is an object whose `op` is `load`
+/// and whose `bytes` is a whole number.
+pub fn read_request(alloc: Global, line: &[u8]) -> Result<Asked, Memory>
+    ensures request { IfOk result (λ asked. seen_or_refused asked.request ≡ request_of line.now) }
+    ensures block { IfOk result (λ asked. asked.block ≡ block_of line.now) }
 {
     match Value::from_slice(alloc, line) {
-        Ok(value) => request_in(alloc, value),
+        Ok(value) => Ok(Asked {
+            block: read_block_size(&value),
+            request: request_in(alloc, value)?,
+        }),
         Err(error) => {
             if error.is_memory() {
-                Err(Memory)
-            } else {
-                Ok(Err(Refusal::NotJson))
+                return Err(Memory);
             }
+            Ok(Asked {
+                block: None,
+                request: Err(Refusal::NotJson),
+            })
         }
     }
 }

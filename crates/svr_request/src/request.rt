@@ -1,3 +1,4 @@
+use crate::refusal::Refusal;
 use serde_json::Value;
 use svr_edge::{Items, Text};
 use svr_num::{DocId, Mode};
@@ -5,6 +6,15 @@ use svr_rows::Given;
 
 /// How many hits a search asks for that doesn't say it.
 pub const HITS_BY_DEFAULT: i128 = 10;
+
+/// What a line holds.
+#[derive(Debug, Drop)]
+pub struct Asked {
+    /// How many bytes behind the line are its block, if it has one. It has one also where its request is refused.
+    pub block: Option<u64>,
+    /// What it asks for, or why that is refused: `NotJson`, `UnknownOp` or `BadShape`.
+    pub request: Result<Request, Refusal>,
+}
 
 /// What a line asks for. Tables go by their names.
 #[derive(Debug, Drop)]
@@ -17,6 +27,9 @@ pub enum Request {
     Update { table: Text, row: Items<Given> },
     /// To take out the row with an id.
     Delete { table: Text, id: DocId },
+    /// To add the rows of the block that comes with the request, all or none. Where `header` is true its first record is
+    /// dropped.
+    Load { table: Text, header: bool },
     /// To find the best `k` documents whose text has the query's terms.
     Search { query: Text, mode: Mode, k: i128 },
     /// To merge the lists of all terms.

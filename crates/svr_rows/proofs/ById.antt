@@ -1,14 +1,18 @@
 -- Rows in ascending order of id, and the entries of a map that has each at its id.
-use Rattle.std.proofs.Common.{◌≡◌, ℕ, ◌<◌, ◌==◌, ◌||◌, Bool, true, false, not, cond, nat_lt, List, [], ◌∷◌, map, Option, Some, is_some, inl, inr, refl, sym, ap, ap₂, ◌∙◌, subst, rules, arith}
+use Rattle.std.proofs.Common.{◌≡◌, ℕ, ◌+◌, ◌<◌, ◌==◌, ◌||◌, Bool, true, false, not, cond, nat_lt, List, [], ◌∷◌, ◌++◌, length, map, sum_by, Option, Some, is_some, inl, inr, refl, sym, ap, ap₂, ◌∙◌, subst, rules, arith}
 use Rattle.std.specs.Ordering.{nat_cmp, match_ordering, is_eq}
 use Rattle.std.specs.declared.cmp.Ordering.{Ordering}
 use Rattle.std.specs.declared.cmp.Ordering.TheVariants.{Less, Equal, Greater}
 use Rattle.std.specs.Cmp.{nat_cmp_is}
-use Rattle.std.specs.List.{AllByRecursion}
+use Rattle.std.specs.List.{AllByRecursion, filter, list_any}
 use Rattle.std.specs.Map.{lookup, keys_of, values_of, remove_entry}
 use Rattle.std.specs.BTreeMap.{is_at, insert_entry}
-use Rattle.std.proofs.lemmas.Bool.{cases_order}
+use Rattle.std.proofs.lemmas.Bool.{cases_order, or_parts}
 use Rattle.std.proofs.lemmas.Bool.Decides.{nat_tests}
+use Rattle.std.proofs.lemmas.List.{length-append}
+use Rattle.std.proofs.lemmas.List.Elements.{filter-append}
+use Rattle.std.proofs.lemmas.List.Folds.{list_any-append}
+use Rattle.std.proofs.lemmas.List.Sums.{sum_by-append, sum_by-cons}
 use Rattle.std.proofs.lemmas.Map.Keys.{sorted_head, sorted_tail}
 use Rattle.svr_rows.specs.declared.row.Row.{Row}
 use Rattle.svr_rows.specs.Rows.{has_row, id_of, row_at, with_row, without_row}
@@ -24,7 +28,7 @@ keys_of-by_id (r ∷ rows) = ap (λ ids. id_of r ∷ ids) (keys_of-by_id rows)
 
 -- ---- a look-up
 
-is_eq-nat_cmp : (a b : ℕ) → is_eq (nat_cmp a b) ≡ (b == a)
+pub is_eq-nat_cmp : (a b : ℕ) → is_eq (nat_cmp a b) ≡ (b == a)
 is_eq-nat_cmp a b = elim (cases_order a b) [
   | inl e ↦ ap is_eq (sym (nat_cmp_is a b Equal e)) ∙ (let t : (b == a) ≡ true = search (rules, sym e) in sym t)
   | inr o ↦ elim o [
@@ -91,7 +95,77 @@ insert_entry-by_id (r ∷ rows) row = elim (cases_order (id_of row) (id_of r)) [
   ]
 ]
 
+-- ---- a row whose id isn't there
+
+-- the row is one more among the rows
+pub record IsOneMore (row : Row) (rows more : List Row) : Type 0 where
+  pub front : List Row
+  pub back : List Row
+  pub before : rows ≡ front ++ back
+  pub after : more ≡ front ++ row ∷ back
+
+one_more-cons : (r row : Row) (rows more : List Row) → IsOneMore row rows more → IsOneMore row (r ∷ rows) (r ∷ more)
+one_more-cons r row rows more h =
+    record { front = r ∷ h.front; back = h.back; before = ap (λ rs. r ∷ rs) h.before; after = ap (λ rs. r ∷ rs) h.after }
+
+pub one_more-with_row : (rows : List Row) (row : Row) → has_row rows (id_of row) ≡ false → IsOneMore row rows (with_row rows row)
+one_more-with_row [] row new = record { front = []; back = []; before = refl; after = with_row-none row }
+one_more-with_row (r ∷ rows) row new =
+    let apart = or_parts (id_of r == id_of row) (has_row rows (id_of row)) new in
+    elim (cases_order (id_of row) (id_of r)) [
+      | inl e ↦ absurd (grind (arith, nat_tests, e, apart.0))
+      | inr o ↦ elim o [
+        | inl l ↦ record { front = []; back = r ∷ rows; before = refl; after = with_row-below r row rows l }
+        | inr g ↦ subst (IsOneMore row (r ∷ rows)) (sym (with_row-above r row rows g))
+            (one_more-cons r row rows (with_row rows row) (one_more-with_row rows row apart.1))
+      ]
+    ]
+
+swap : (a b c : Bool) → (a || (b || c)) ≡ (b || (a || c))
+swap true true c = refl
+swap true false c = refl
+swap false true c = refl
+swap false false c = refl
+
+-- what counts and tests say of the rows with one more
+module _ (row : Row) (rows more : List Row) (h : IsOneMore row rows more) where
+  pub one_more-length : length more ≡ length rows + 1
+  one_more-length = omega (arith, ap length h.before, ap length h.after, length-append h.front h.back, length-append h.front (row ∷ h.back))
+
+  pub one_more-sum_by : (f : Row → ℕ) → sum_by f more ≡ sum_by f rows + f row
+  one_more-sum_by f = omega (
+    arith,
+    ap (sum_by f) h.before,
+    ap (sum_by f) h.after,
+    sum_by-append f h.front h.back,
+    sum_by-append f h.front (row ∷ h.back),
+    sum_by-cons f row h.back,
+  )
+
+  pub one_more-has_row : (id : ℕ) → has_row more id ≡ (id_of row == id || has_row rows id)
+  one_more-has_row id =
+      let test = λ (r : Row). id_of r == id in
+      ap (list_any test) h.after ∙ list_any-append test h.front (row ∷ h.back)
+      ∙ swap (list_any test h.front) (id_of row == id) (list_any test h.back)
+      ∙ ap (λ b. id_of row == id || b) (sym (ap (list_any test) h.before ∙ list_any-append test h.front h.back))
+
 -- ---- a row is taken out
+
+without_row-new : (rows : List Row) (id : ℕ) → has_row rows id ≡ false → without_row rows id ≡ rows
+without_row-new [] id new = refl
+without_row-new (r ∷ rows) id new =
+    let apart = or_parts (id_of r == id) (has_row rows id) new in
+    ap₂ (λ b rs. cond (not b) (r ∷ rs) rs) apart.0 (without_row-new rows id apart.1)
+
+-- the row that was put in is the one that is taken out
+pub without_row-with_row : (rows : List Row) (row : Row) → has_row rows (id_of row) ≡ false → without_row (with_row rows row) (id_of row) ≡ rows
+without_row-with_row rows row new =
+    let h = one_more-with_row rows row new in
+    let keeps = λ (r : Row). not (id_of r == id_of row) in
+    let self : (id_of row == id_of row) ≡ true = search rules in
+    ap (filter keeps) h.after ∙ filter-append keeps h.front (row ∷ h.back)
+    ∙ ap (λ b. filter keeps h.front ++ cond (not b) (row ∷ filter keeps h.back) (filter keeps h.back)) self
+    ∙ sym (filter-append keeps h.front h.back) ∙ ap (filter keeps) (sym h.before) ∙ without_row-new rows (id_of row) new
 
 without_row-none : (rows : List Row) (id : ℕ) → AllByRecursion (λ k. nat_cmp id k ≡ Less) (map id_of rows) → without_row rows id ≡ rows
 without_row-none [] id h = refl

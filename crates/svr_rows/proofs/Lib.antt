@@ -4,3 +4,4 @@ pub mod Tested
 pub mod Entries
 pub mod Sums
 pub mod Laws
+pub mod Beside

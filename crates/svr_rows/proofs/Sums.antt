@@ -62,7 +62,7 @@ text_bytes-cons t tables = sum_by-cons (λ t. sum_by row_bytes t.rows) t tables
 same_table : (t there : TableRows) → Some t ≡ Some there → t ≡ there
 same_table t there e = cc
 
-text_bytes-with_rows : (tables : List TableRows) (place : ℕ) (there : TableRows) (rows : List Row) → slice_get tables place ≡ Some there
+pub text_bytes-with_rows : (tables : List TableRows) (place : ℕ) (there : TableRows) (rows : List Row) → slice_get tables place ≡ Some there
     → text_bytes (with_rows tables place rows) + sum_by row_bytes there.rows ≡ text_bytes tables + sum_by row_bytes rows
 unfolding with_rows
 text_bytes-with_rows [] place there rows e = absurd (cc)

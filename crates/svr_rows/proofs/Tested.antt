@@ -47,7 +47,7 @@ IsNew-from_none t id h =
 
 -- ---- the tests, in their order
 
-abbrev inserts_if : Option RowRefusal → Option RowRefusal → Option RowRefusal → Option RowRefusal
+abbrev pub inserts_if : Option RowRefusal → Option RowRefusal → Option RowRefusal → Option RowRefusal
 inserts_if bad taken texts = or_then bad (or_then taken texts)
 
 abbrev updates_if : Option RowRefusal → Bool → Option RowRefusal → Option RowRefusal
@@ -73,10 +73,10 @@ module _ (tables : List TableRows) (place : ℕ) (there : TableRows) (e : slice_
   same_rows = ap rows_at e
 
   module _ (row : Row) where
-    abbrev after_put : List TableRows
+    abbrev pub after_put : List TableRows
     after_put = with_rows tables place (with_row there.rows row)
 
-    insert_is : refusal_of tables (Insert place row) ≡ inserts_if (row_refusal there row) (new_refusal there (id_of row)) (text_refusal after_put)
+    pub insert_is : refusal_of tables (Insert place row) ≡ inserts_if (row_refusal there row) (new_refusal there (id_of row)) (text_refusal after_put)
     unfolding refusal_of
     insert_is =
         ap (λ o. refusal_at o tables (Insert place row)) e
@@ -155,6 +155,20 @@ put_if_updated tables place row (Some there) e h =
           (false≢true (sym (sym (ap not none) ∙ has)));
       texts = changed_put tables place there row e b.1;
     }
+
+new_if_inserted : (tables : List TableRows) (place : ℕ) (row : Row) (o : Option TableRows)
+    → refusal_at o tables (Insert place row) ≡ None → has_row (rows_at o) (id_of row) ≡ false
+new_if_inserted tables place row None h = absurd (let k : Some NoTable ≡ None = h in cc)
+new_if_inserted tables place row (Some there) h =
+    let texts = text_refusal (changed tables (Insert place row)) in
+    let a = neither (row_refusal there row) (or_then (new_refusal there (id_of row)) texts) h in
+    (IsNew-from_none there (id_of row) (neither (new_refusal there (id_of row)) texts a.1).0).free
+
+-- no row has the id of one whose insert isn't refused
+pub has_row-insert : (tables : List TableRows) (place : ℕ) (row : Row) → refusal_of tables (Insert place row) ≡ None
+    → has_row (rows_in tables place) (id_of row) ≡ false
+unfolding refusal_of
+has_row-insert tables place row h = new_if_inserted tables place row (slice_get tables place) h
 
 pub CanPut-insert : (tables : List TableRows) (place : ℕ) (row : Row) → refusal_of tables (Insert place row) ≡ None
     → CanPut tables place row

@@ -1,5 +1,5 @@
 -- What a change makes of the rows, or why it is refused.
-use Rattle.std.specs.Prelude.{ℕ, zero, suc, Bool, not, List, [], ◌∷◌, length, map, slice_get, nat_lt, nat_le, if◌then◌else◌, Option, Some, None, Result, Ok, Err}
+use Rattle.std.specs.Prelude.{ℕ, ◌+◌, zero, suc, Bool, not, List, [], ◌∷◌, length, map, slice_get, nat_lt, nat_le, if◌then◌else◌, Option, Some, None, Result, Ok, Err}
 use Rattle.svr_rows.specs.declared.row.Row.{Row}
 use Rattle.svr_rows.specs.declared.change.Change.{Change}
 use Rattle.svr_rows.specs.declared.change.Change.TheVariants.{Insert, Update, Delete}
@@ -78,3 +78,24 @@ unless (Some why) after = Err why
 -- the rows after a change, or why it is refused
 abbrev pub after : List TableRows → Change → Result (List TableRows) RowRefusal
 after tables change = unless (refusal_of tables change) (changed tables change)
+
+-- ---- a load: the inserts of rows into one table, one after the other
+
+-- the tables after them
+unfoldable pub inserted : List TableRows → ℕ → List Row → List TableRows
+inserted tables at [] = tables
+inserted tables at (row ∷ rows) = inserted (changed tables (Insert at row)) at rows
+
+abbrev pub numbered : ℕ → Option RowRefusal → Option (ℕ × RowRefusal) → Option (ℕ × RowRefusal)
+numbered n None later = later
+numbered n (Some why) later = Some (n, why)
+
+-- the first row, counted on from n, that is refused after the inserts of those before it, and why
+unfoldable pub refusal_from : ℕ → List TableRows → ℕ → List Row → Option (ℕ × RowRefusal)
+refusal_from n tables at [] = None
+refusal_from n tables at (row ∷ rows) =
+    numbered n (refusal_of tables (Insert at row)) (refusal_from (n + 1) (changed tables (Insert at row)) at rows)
+
+-- the same, counted from 1
+abbrev pub load_refusal : List TableRows → ℕ → List Row → Option (ℕ × RowRefusal)
+load_refusal tables at rows = refusal_from 1 tables at rows

@@ -72,7 +72,8 @@ impl KeptTable {
     }
 
     pub fn len(&self) -> usize
-        ensures { result ≡ length self.now.rows }
+        ensures value { result ≡ length self.now.rows }
+        ensures few { result ≤ TABLE_ROWS }
     {
         self.rows.len()
     }

@@ -4,9 +4,11 @@
 mod change;
 mod columns;
 mod kept;
+mod load;
 mod row;
 mod tables;
 
 pub use change::{Change, RowRefusal};
+pub use load::LoadRefusal;
 pub use row::{Given, Row, TypedRefusal, typed_row};
 pub use tables::{ALL_TEXT_BYTES, TABLE_ROWS, TEXT_BYTES, Tables};

@@ -1,14 +1,17 @@
 ghost use Rattle.std.specs.List.{All};
-ghost use Rattle.std.specs.Prelude.{◌≡◌, ◌<◌, ◌≤◌, ◌+◌, ℕ, ◌^◌, false, true, length, map, slice_get, IfOk, IfErr, IfSome, OnOk, OnErr, Some, None, option_map};
+ghost use Rattle.std.specs.Prelude.{◌≡◌, ◌<◌, ◌≤◌, ◌+◌, ℕ, ◌^◌, [], false, true, length, map, slice_get, IfOk, IfErr, IfSome, OnOk, OnErr, Some, None, option_map};
 ghost use Rattle.svr_schema.specs.Lawful.{IsSchema};
-ghost use Rattle.svr_rows.specs.Rows.{IsRowOf, id_of, kinds_in, rows_in, row_at, text_bytes, no_rows, with_row, without_row};
+ghost use Rattle.svr_rows.specs.Rows.{HasId, IsRowOf, id_of, kinds_in, rows_in, row_at, text_bytes, no_rows, with_row, without_row};
 ghost use Rattle.svr_rows.specs.Changes.{changed, refusal_of, row_before, with_rows};
 ghost use Rattle.svr_rows.specs.Kept.{CanPut, IsTableRows};
+ghost use Rattle.svr_rows.specs.Load.{IsAhead, refusal_beside};
 
 use crate::change::{Change, RowRefusal};
 use crate::kept::KeptTable;
+use crate::load::Ahead;
 use crate::row::{Row, bytes_of};
 use std::alloc::Global;
+use std::collections::BTreeSet;
 use std::marker::Model;
 use svr_edge::Memory;
 use svr_num::DocId;
@@ -91,6 +94,30 @@ impl Tables {
         check_text(self.bytes + row.text_bytes())
     }
 
+    /// What is ahead of the first row that is tested.
+    pub(crate) fn none_ahead(&self, alloc: Global) -> Ahead
+        ensures lawful { All IsTableRows self.now }
+        ensures none { (place : ℕ) → IsAhead self.now place [] result }
+    {
+        Ahead {
+            ids: BTreeSet::new(alloc),
+            bytes: self.bytes,
+        }
+    }
+
+    /// Tests an insert after those of the rows ahead.
+    pub(crate) fn check_beside(&self, table: u8, row: &Row, ahead: &Ahead) -> Result<(), RowRefusal>
+        requires { ahead.now.bytes ≤ 67108864 }
+        ensures ok { OnOk result (refusal_beside self.now table ahead.now row.now ≡ None) }
+        ensures refused { IfErr result (λ why. refusal_beside self.now table ahead.now row.now ≡ Some why) }
+        ensures has_id { OnOk result (HasId row.now) }
+    {
+        let kept = self.table(table)?;
+        kept.check_row(row)?;
+        ahead.check_new(kept, row.id())?;
+        check_text(ahead.bytes + row.text_bytes())
+    }
+
     fn check_update(&self, table: u8, row: &Row) -> Result<(), RowRefusal>
         ensures lawful { All IsTableRows self.now }
         ensures ok { OnOk result (refusal_of self.now (Change.Update table row.now) ≡ None) }
@@ -122,6 +149,7 @@ impl Tables {
         ensures before { IfOk result (λ before. before ≡ row_before self.old change) }
         ensures err { OnErr result (self.new ≡ self.old) }
         ensures as_many { length self.new ≡ length self.old }
+        ensures lawful { All IsTableRows self.new }
     {
         match change {
             Change::Insert { table, row } | Change::Update { table, row } => self.put(table, row),
@@ -135,6 +163,7 @@ impl Tables {
         ensures before { IfOk result (λ before. before ≡ row_at (rows_in self.old table) (id_of row)) }
         ensures err { OnErr result (self.new ≡ self.old) }
         ensures as_many { length self.new ≡ length self.old }
+        ensures lawful { All IsTableRows self.new }
     {
         let bytes = self.bytes + row.text_bytes();
         let before = self.tables[table as usize].put(row)?;
@@ -142,11 +171,13 @@ impl Tables {
         Ok(before)
     }
 
-    fn remove(&mut self, table: u8, id: DocId) -> Option<Row>
+    /// Takes out the row with the id, if one is there, and answers it. It takes no memory.
+    pub fn remove(&mut self, table: u8, id: DocId) -> Option<Row>
         requires { table < length self.old }
         ensures changed { self.new ≡ with_rows self.old table (without_row (rows_in self.old table) id) }
         ensures before { result ≡ row_at (rows_in self.old table) id }
         ensures as_many { length self.new ≡ length self.old }
+        ensures lawful { All IsTableRows self.new }
     {
         let before = self.tables[table as usize].remove(id);
         self.bytes -= bytes_of(&before);

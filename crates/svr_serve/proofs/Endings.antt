@@ -1,21 +1,22 @@
 -- What was written in the end, by how serving ended.
-use Rattle.std.proofs.Common.{◌≡◌, ◌⊎◌, ℕ, ◌≤◌, List, [], ◌∷◌, ◌++◌, Option, Some, None, inl, inr, refl, ap, ◌∙◌, subst, arith, append-nil, Contains}
+use Rattle.std.proofs.Common.{◌≡◌, ◌≢◌, ◌⊎◌, ℕ, ◌≤◌, List, [], ◌∷◌, ◌++◌, Option, Some, None, inl, inr, refl, ap, ◌∙◌, subst, arith, append-nil, Contains}
 use Rattle.std.specs.Io.KnownBytes.{Appends}
 use Rattle.std.proofs.KnownBytes.{Appends-trans}
 use Rattle.svr_core.specs.Run.{texts}
 use Rattle.svr_edge.proofs.CausesLemmas.{Rose-earlier}
 use Rattle.svr_serve.specs.declared.ending.Ending.{Ending}
-use Rattle.svr_serve.specs.declared.ending.Ending.TheVariants.{Complete, Words, Input, Output, Memory, Bytes}
-use Rattle.svr_serve.specs.Program.{IsPrefix, Served, Stopped, StoppedBehind, WritesFault, WritesPart}
+use Rattle.svr_serve.specs.declared.ending.Ending.TheVariants.{Complete, Cut, Words, Input, Output, Memory, Bytes}
+use Rattle.svr_serve.specs.Program.{EndsInBlock, IsPrefix, Served, Stopped, StoppedBehind, WritesFault, WritesPart}
 use Rattle.svr_serve.specs.Serving.{EndsBy, WritesBehind, WritesFirst, status_of}
 
-pub status_among : (e : Ending) → Contains (0 ∷ 2 ∷ 3 ∷ 4 ∷ 7 ∷ 8 ∷ []) (status_of e)
+pub status_among : (e : Ending) → Contains (0 ∷ 1 ∷ 2 ∷ 3 ∷ 4 ∷ 7 ∷ 8 ∷ []) (status_of e)
 status_among Complete = (0, omega arith, refl)
-status_among Words = (1, omega arith, refl)
-status_among Input = (2, omega arith, refl)
-status_among Output = (3, omega arith, refl)
-status_among Memory = (4, omega arith, refl)
-status_among Bytes = (5, omega arith, refl)
+status_among Cut = (1, omega arith, refl)
+status_among Words = (2, omega arith, refl)
+status_among Input = (3, omega arith, refl)
+status_among Output = (4, omega arith, refl)
+status_among Memory = (5, omega arith, refl)
+status_among Bytes = (6, omega arith, refl)
 
 -- the same fault, by the status and from an earlier count
 pub WritesFault-of : (e : Ending) (status start before after : ℕ) (line : List ℕ) → status ≡ status_of e → start ≤ before
@@ -29,8 +30,8 @@ front_of_none : (front : List ℕ) → IsPrefix front [] → front ≡ []
 front_of_none [] p = refl
 front_of_none (x ∷ front) p = cc
 
-not_among : (n : ℕ) → (n ≡ 3) ⊎ (n ≡ 8) → (n ≡ 3 → ⊥) → (n ≡ 8 → ⊥) → ⊥
-not_among n h a b = elim h [ inl is ↦ a is | inr is ↦ b is ]
+none_of : (n : ℕ) → (n ≡ 1) ⊎ (n ≡ 3) ⊎ (n ≡ 8) → n ≢ 1 → n ≢ 3 → n ≢ 8 → ⊥
+none_of n h a b d = elim h [ inl is ↦ a is | inr other ↦ elim other [ inl is ↦ b is | inr is ↦ d is ] ]
 
 -- a line was written behind the replies
 module _ (rest taken mid now : Option (List ℕ)) (line : List ℕ) (q : Appends mid now line) where
@@ -39,9 +40,10 @@ module _ (rest taken mid now : Option (List ℕ)) (line : List ℕ) (q : Appends
       (Appends-trans taken mid now bytes line p q)
 
   Served-on : (left : Option (List ℕ)) → Served left rest taken mid → line ≡ [] → Served left rest taken now
-  Served-on None s none = record { end = s.end; replies = tt }
+  Served-on None s none = record { end = s.end; uncut = tt; replies = tt }
   Served-on (Some x) s none = record {
     end = s.end;
+    uncut = s.uncut;
     replies = (s.replies.0, s.replies.1, Appends-none (texts s.replies.0) none s.replies.2);
   }
 
@@ -62,6 +64,7 @@ module _ (rest taken mid now : Option (List ℕ)) (line : List ℕ) (q : Appends
       → WritesFault (status_of e) before after line → status_of e ≡ 0 → Served left rest taken now
   served_by Complete left before after s f h = Served-on left s (front_of_none line f.part)
   served_by Words left before after s f h = absurd s
+  served_by Cut left before after s f h = absurd (omega (arith, h))
   served_by Input left before after s f h = absurd (omega (arith, h))
   served_by Output left before after s f h = absurd (omega (arith, h))
   served_by Memory left before after s f h = absurd (omega (arith, h))
@@ -72,25 +75,37 @@ module _ (rest taken mid now : Option (List ℕ)) (line : List ℕ) (q : Appends
   part_by Output left before after s f h = WritesPart-on left s (front_of_none line f.part)
   part_by Complete left before after s f h = absurd (omega (arith, h))
   part_by Words left before after s f h = absurd s
+  part_by Cut left before after s f h = absurd (omega (arith, h))
   part_by Input left before after s f h = absurd (omega (arith, h))
   part_by Memory left before after s f h = absurd (omega (arith, h))
   part_by Bytes left before after s f h = absurd (omega (arith, h))
 
   pub stopped_by : (e : Ending) (left : Option (List ℕ)) (before after : ℕ) → EndsBy e left rest taken mid
-      → WritesFault (status_of e) before after line → (status_of e ≡ 3) ⊎ (status_of e ≡ 8)
+      → WritesFault (status_of e) before after line → (status_of e ≡ 1) ⊎ (status_of e ≡ 3) ⊎ (status_of e ≡ 8)
       → StoppedBehind (status_of e) before after left rest taken now
+  stopped_by Cut left before after s f h = Behind-on left 1 before after s.0 f
   stopped_by Input left before after s f h = Behind-on left 3 before after s f
   stopped_by Bytes left before after s f h = Behind-on left 8 before after s f
   stopped_by Words left before after s f h = absurd s
-  stopped_by Complete left before after s f h = absurd (not_among 0 h (λ is. omega (arith, is)) (λ is. omega (arith, is)))
-  stopped_by Output left before after s f h = absurd (not_among 4 h (λ is. omega (arith, is)) (λ is. omega (arith, is)))
-  stopped_by Memory left before after s f h = absurd (not_among 7 h (λ is. omega (arith, is)) (λ is. omega (arith, is)))
+  stopped_by Complete left before after s f h = absurd (none_of 0 h (omega arith) (omega arith) (omega arith))
+  stopped_by Output left before after s f h = absurd (none_of 4 h (omega arith) (omega arith) (omega arith))
+  stopped_by Memory left before after s f h = absurd (none_of 7 h (omega arith) (omega arith) (omega arith))
+
+  pub cut_by : (e : Ending) (left : Option (List ℕ)) → EndsBy e left rest taken mid → status_of e ≡ 1 → EndsInBlock left rest
+  cut_by Cut left s h = s.1
+  cut_by Words left s h = absurd s
+  cut_by Complete left s h = absurd (omega (arith, h))
+  cut_by Input left s h = absurd (omega (arith, h))
+  cut_by Output left s h = absurd (omega (arith, h))
+  cut_by Memory left s h = absurd (omega (arith, h))
+  cut_by Bytes left s h = absurd (omega (arith, h))
 
   pub memory_by : (e : Ending) (left : Option (List ℕ)) (before after : ℕ) → EndsBy e left rest taken mid
       → WritesFault (status_of e) before after line → status_of e ≡ 7 → Stopped 7 before after left taken now
   memory_by Memory left before after s f h = Stopped-on left 7 before after s f
   memory_by Complete left before after s f h = absurd (omega (arith, h))
   memory_by Words left before after s f h = absurd s
+  memory_by Cut left before after s f h = absurd (omega (arith, h))
   memory_by Input left before after s f h = absurd (omega (arith, h))
   memory_by Output left before after s f h = absurd (omega (arith, h))
   memory_by Bytes left before after s f h = absurd (omega (arith, h))

@@ -1,5 +1,7 @@
 pub mod Endings
-pub mod Pieces
+pub mod Joins
+pub mod Parts
 pub mod Runs
 pub mod Stops
+pub mod Taken
 pub mod Turns

@@ -1,22 +1,22 @@
 -- What was written and how many bytes were taken, after the last turn.
-use Rattle.std.proofs.Common.{◌≡◌, ◌⊎◌, ℕ, ◌<◌, ◌^◌, inl, inr, Bool, true, false, List, [], ◌∷◌, ◌++◌, length, map, refl, sym, ap, ◌∙◌, subst, arith, append_assoc, append-nil, length-append, Option, Some, None, IfSome, Result}
+use Rattle.std.proofs.Common.{◌≡◌, ◌⊎◌, ℕ, ◌<◌, ◌^◌, inl, inr, Bool, true, false, List, [], ◌∷◌, ◌++◌, length, refl, sym, ap, ◌∙◌, subst, arith, append_assoc, append-nil, length-append, Option, Some, None, IfSome}
+use Rattle.std.specs.List.{filter_map, list_any}
 use Rattle.std.specs.Io.KnownBytes.{Appends, Consumes, IsAtEnd}
 use Rattle.std.proofs.KnownBytes.{Appends-trans, Consumes-trans}
 use Rattle.svr_core.specs.Run.{IsRun, texts}
 use Rattle.svr_core.specs.State.{empty}
-use Rattle.svr_lines.specs.Lines.{IsWholeLines, pieces_of}
-use Rattle.svr_lines.specs.Pieces.{StopsInLine}
+use Rattle.svr_lines.specs.Lines.{pieces_of}
 use Rattle.svr_lines.specs.Reading.{KnowsEnd, Reading, taken_bytes}
-use Rattle.svr_request.specs.declared.refusal.Refusal.{Refusal}
 use Rattle.svr_request.specs.declared.reply.Reply.{Reply}
 use Rattle.svr_request.specs.Replies.{text_of}
-use Rattle.svr_request.specs.Requests.{Wanted}
+use Rattle.svr_request.specs.Requests.{Submitted}
 use Rattle.svr_serve.specs.declared.ending.Ending.{Ending}
-use Rattle.svr_serve.specs.declared.ending.Ending.TheVariants.{Complete, Words, Input, Output, Memory, Bytes}
-use Rattle.svr_serve.specs.Input.{line_request, requests_of}
-use Rattle.svr_serve.specs.Program.{AnswersFirst, IsPrefix, Served, Took, TookLess, WritesPart}
-use Rattle.svr_serve.specs.Serving.{EndsBy, EndsInput, Replies, SoFar, Standing, StopsReading, StopsTurn, WritesBehind, WritesFirst}
-use Rattle.svr_serve.proofs.Pieces.{requests_of-none, requests_of-whole, whole_requests-whole}
+use Rattle.svr_serve.specs.declared.ending.Ending.TheVariants.{Complete, Cut, Words, Input, Output, Memory, Bytes}
+use Rattle.svr_serve.specs.Input.{ends_in_block, is_cut, request_in, requests_of, whole_in, whole_requests}
+use Rattle.svr_serve.specs.Program.{AnswersFirst, EndsInBlock, IsPrefix, Served, Took, TookLess, WritesPart}
+use Rattle.svr_serve.specs.Serving.{EndsBy, EndsCut, EndsInput, IsWhole, Replies, SoFar, Standing, StopsReading, StopsShort, StopsTurn, WritesBehind, WritesFirst}
+use Rattle.svr_serve.proofs.Joins.{ends_in_block-join, requests_of-join, requests_of-none, whole_requests-join}
+use Rattle.svr_serve.proofs.Parts.{parts_of-none}
 use Rattle.svr_serve.proofs.Runs.{texts-more}
 use Rattle.svr_serve.proofs.Turns.{Consumes-ahead, Consumes-reads, next_run, next_whole}
 
@@ -40,7 +40,7 @@ by_cases : (b : Bool) (P : Type 0) → (b ≡ true → P) → (b ≡ false → P
 by_cases true P f g = f refl
 by_cases false P f g = g refl
 
-module _ (lines : Reading) (now : Option (List ℕ)) (handed rest : List ℕ) (w : lines.ended ≡ false → IsWholeLines handed)
+module _ (lines : Reading) (now : Option (List ℕ)) (handed rest : List ℕ) (w : lines.ended ≡ false → IsWhole handed)
     (k : KnowsEnd lines now) (known : now ≡ Some rest) where
   -- the requests behind what was handed out are the others
   others_behind : requests_of (handed ++ (lines.ahead ++ rest)) ≡ requests_of handed ++ requests_of (lines.ahead ++ rest)
@@ -49,7 +49,7 @@ module _ (lines : Reading) (now : Option (List ℕ)) (handed rest : List ℕ) (w
       (λ is. let none = none_left now lines.ahead rest (k is).0 (k is).1 known in
       ap (λ xs. requests_of (handed ++ xs)) none ∙ ap requests_of (append-nil handed) ∙ sym (append-nil (requests_of handed))
       ∙ ap (λ rs. requests_of handed ++ rs) (sym (requests_of-none (lines.ahead ++ rest) none)))
-      (λ is. requests_of-whole handed (lines.ahead ++ rest) (w is))
+      (λ is. requests_of-join handed (lines.ahead ++ rest) (w is))
 
   answers_first : (replies : List Reply) → IsRun empty (requests_of handed) replies
       → AnswersFirst (handed ++ (lines.ahead ++ rest)) replies
@@ -60,20 +60,27 @@ module _ (lines : Reading) (now : Option (List ℕ)) (handed rest : List ℕ) (w
     run = run;
   }
 
--- what was handed out last has no request
-last_requests : (handed gone rest : List ℕ) → IsWholeLines handed → pieces_of gone ≡ [] → rest ≡ []
+-- what was handed out last has no request, and no cut block
+last_requests : (handed gone rest : List ℕ) → IsWhole handed → pieces_of gone ≡ [] → rest ≡ []
     → requests_of ((handed ++ gone) ++ rest) ≡ requests_of handed
 last_requests handed gone rest w none nil = ap (λ xs. requests_of ((handed ++ gone) ++ xs)) nil
-    ∙ ap requests_of (append-nil (handed ++ gone)) ∙ requests_of-whole handed gone w
-    ∙ ap (λ ls. requests_of handed ++ map line_request ls) none ∙ append-nil (requests_of handed)
+    ∙ ap requests_of (append-nil (handed ++ gone)) ∙ requests_of-join handed gone w
+    ∙ ap (λ ps. requests_of handed ++ filter_map request_in ps) (parts_of-none gone none) ∙ append-nil (requests_of handed)
 
-served_all : (left rest taken now : Option (List ℕ)) (requests : List (Result Wanted Refusal)) (replies : List Reply)
+last_uncut : (handed gone rest : List ℕ) → IsWhole handed → ends_in_block handed ≡ false → pieces_of gone ≡ [] → rest ≡ []
+    → ends_in_block ((handed ++ gone) ++ rest) ≡ false
+last_uncut handed gone rest w uncut none nil = ap (λ xs. ends_in_block ((handed ++ gone) ++ xs)) nil
+    ∙ ap ends_in_block (append-nil (handed ++ gone)) ∙ ends_in_block-join handed gone w uncut
+    ∙ ap (list_any is_cut) (parts_of-none gone none)
+
+served_all : (left rest taken now : Option (List ℕ)) (requests : List Submitted) (replies : List Reply)
     → IfSome left (λ input. requests_of input ≡ requests) → IsRun empty requests replies → Appends taken now (texts replies)
-    → IsAtEnd rest → Served left rest taken now
-served_all None rest taken now requests replies all run written end = record { end = end; replies = tt }
-served_all (Some input) rest taken now requests replies all run written end = record {
+    → IsAtEnd rest → IfSome left (λ input. ends_in_block input ≡ false) → Served left rest taken now
+served_all None rest taken now requests replies all run written end uncut = record { end = end; uncut = tt; replies = tt }
+served_all (Some input) rest taken now requests replies all run written end uncut = record {
   end = end;
-  replies = (replies, subst (λ (rs : List (Result Wanted Refusal)). IsRun empty rs replies) (sym all) run, written);
+  uncut = uncut;
+  replies = (replies, subst (λ (rs : List Submitted). IsRun empty rs replies) (sym all) run, written);
 }
 
 -- the end was seen before, and no byte is taken behind it
@@ -138,22 +145,52 @@ module _ (left taken : Option (List ℕ)) (old new : Standing) (s : SoFar left t
       ))
 
   -- the reader stopped
-  writes_behind : (bytes : List ℕ) → old.lines.ended ≡ false → StopsInLine old.left new.left old.lines new.lines bytes
-      → new.taken ≡ old.taken → WritesBehind left new.left taken new.taken
-  writes_behind bytes open_end p silent =
-      let ahead = old.lines.ahead ++ bytes in (
+  writes_behind : StopsShort old.left new.left old.lines new.lines → new.taken ≡ old.taken → WritesBehind left new.left taken new.taken
+  writes_behind p silent =
+      let ahead = old.lines.ahead ++ p.bytes in (
         s.handed ++ ahead,
         s.replies,
-        Consumes-ahead left old.left new.left s.handed old.lines.ahead bytes ahead s.consumed p.consumed refl,
-        subst (λ (rs : List (Result Wanted Refusal)). IsRun empty rs s.replies)
-            (sym (whole_requests-whole s.handed ahead (s.whole open_end) p.none)) s.run,
+        Consumes-ahead left old.left new.left s.handed old.lines.ahead p.bytes ahead s.consumed p.consumed refl,
+        subst (λ (rs : List Submitted). IsRun empty rs s.replies)
+            (sym (whole_requests-join s.handed ahead (s.whole p.open_end) p.none)) s.run,
         same_written silent,
       )
 
+  -- the input ended inside a block
+  cut_whole : (p : EndsCut old.left new.left old.lines new.lines) → whole_requests ((s.handed ++ p.gone) ++ new.lines.ahead) ≡ requests_of s.handed
+  cut_whole p = ap (λ xs. whole_requests ((s.handed ++ p.gone) ++ xs)) p.last.ahead ∙ ap whole_requests (append-nil (s.handed ++ p.gone))
+      ∙ whole_requests-join s.handed p.gone (s.whole p.open_end) (ap (filter_map whole_in) p.part)
+
+  cut_inside : (p : EndsCut old.left new.left old.lines new.lines) → (rest : List ℕ) → new.lines.ahead ++ rest ≡ []
+      → ends_in_block ((s.handed ++ p.gone) ++ (new.lines.ahead ++ rest)) ≡ true
+  cut_inside p rest none = ap (λ xs. ends_in_block ((s.handed ++ p.gone) ++ xs)) none ∙ ap ends_in_block (append-nil (s.handed ++ p.gone))
+      ∙ ends_in_block-join s.handed p.gone (s.whole p.open_end) s.uncut ∙ ap (list_any is_cut) p.part
+
+  consumed_cut : (p : EndsCut old.left new.left old.lines new.lines) → Consumes left new.left ((s.handed ++ p.gone) ++ new.lines.ahead)
+  consumed_cut p = Consumes-reads left old.left new.left old.lines new.lines s.handed p.gone p.bytes s.consumed p.reads
+
+  cuts : EndsCut old.left new.left old.lines new.lines → new.taken ≡ old.taken
+      → WritesBehind left new.left taken new.taken × EndsInBlock left new.left
+  cuts p silent = (
+    (
+      (s.handed ++ p.gone) ++ new.lines.ahead,
+      s.replies,
+      consumed_cut p,
+      subst (λ (rs : List Submitted). IsRun empty rs s.replies) (sym (cut_whole p)) s.run,
+      same_written silent,
+    ),
+    record {
+      end = p.last.source;
+      cut = by_rest left new.left (s.handed ++ p.gone) new.lines.ahead (λ input. ends_in_block input ≡ true) (consumed_cut p)
+          (λ rest known. cut_inside p rest (none_left new.left new.lines.ahead rest p.last.ahead p.last.source known));
+    },
+  )
+
   pub stops_by : (e : Ending) → StopsTurn e old new → EndsBy e left new.left taken new.taken
   stops_by Output p = elim p [ inl cut ↦ writes_part cut.1 cut.2 cut.3 cut.4 | inr none ↦ absurd none.0 ]
-  stops_by Input p = let r = reads_none Input old new p (λ is. cc) in writes_behind r.0.1 r.0.0 r.0.2 r.1
-  stops_by Bytes p = let r = reads_none Bytes old new p (λ is. cc) in writes_behind r.0.1 r.0.0 r.0.2 r.1
+  stops_by Input p = let r = reads_none Input old new p (λ is. cc) in writes_behind r.0 r.1
+  stops_by Bytes p = let r = reads_none Bytes old new p (λ is. cc) in writes_behind r.0 r.1
+  stops_by Cut p = let r = reads_none Cut old new p (λ is. cc) in cuts r.0 r.1
   stops_by Memory p = writes_first (reads_none Memory old new p (λ is. cc)).1
   stops_by Complete p = absurd (reads_none Complete old new p (λ is. cc)).0
   stops_by Words p = absurd (reads_none Words old new p (λ is. cc)).0
@@ -171,36 +208,66 @@ module _ (left taken : Option (List ℕ)) (old new : Standing) (s : SoFar left t
       (λ rest known. last_requests s.handed e.gone (new.lines.ahead ++ rest) (s.whole is) e.none
       (none_left new.left new.lines.ahead rest e.last.ahead e.last.source known)))
 
+  no_cut : (e : EndsInput old.left new.left old.lines new.lines) → IfSome left (λ input. ends_in_block input ≡ false)
+  no_cut e =
+      by_cases old.lines.ended (IfSome left (λ input. ends_in_block input ≡ false))
+      (λ is. by_rest left old.left s.handed old.lines.ahead (λ input. ends_in_block input ≡ false) s.consumed
+      (λ rest known. let end = s.known_end is in
+      ap (λ xs. ends_in_block (s.handed ++ xs)) (none_left old.left old.lines.ahead rest end.0 end.1 known)
+      ∙ ap ends_in_block (append-nil s.handed) ∙ s.uncut))
+      (λ is. by_rest left new.left (s.handed ++ e.gone) new.lines.ahead (λ input. ends_in_block input ≡ false)
+      (Consumes-reads left old.left new.left old.lines new.lines s.handed e.gone e.bytes s.consumed e.reads)
+      (λ rest known. last_uncut s.handed e.gone (new.lines.ahead ++ rest) (s.whole is) s.uncut e.none
+      (none_left new.left new.lines.ahead rest e.last.ahead e.last.source known)))
+
   pub served : EndsInput old.left new.left old.lines new.lines → new.taken ≡ old.taken → Served left new.left taken new.taken
   served e silent = served_all left new.left taken new.taken (requests_of s.handed) s.replies (all_requests e) s.run
-      (same_written silent) e.last.source
+      (same_written silent) e.last.source (no_cut e)
 
   -- ---- how many bytes were taken
 
-  took_behind : (bytes : List ℕ) → StopsInLine old.left new.left old.lines new.lines bytes
-      → Took (taken_bytes new.lines) left new.left
-  took_behind bytes p =
-      let ahead = old.lines.ahead ++ bytes in (
+  took_behind : (p : StopsShort old.left new.left old.lines new.lines) → Took (taken_bytes new.lines) left new.left
+  took_behind p =
+      let ahead = old.lines.ahead ++ p.bytes in (
         s.handed ++ ahead,
-        Consumes-ahead left old.left new.left s.handed old.lines.ahead bytes ahead s.consumed p.consumed refl,
-        omega (arith, s.count, p.taken, length-append s.handed ahead, length-append old.lines.ahead bytes),
+        Consumes-ahead left old.left new.left s.handed old.lines.ahead p.bytes ahead s.consumed p.consumed refl,
+        omega (arith, s.count, p.taken, length-append s.handed ahead, length-append old.lines.ahead p.bytes),
       )
 
   pub took_all : (e : Ending) → StopsTurn e old new → e ≡ Bytes → taken_bytes new.lines ≡ new.lines.limit
       → Took (2 ^ 40) left new.left
   took_all e p is all =
       let r = reads_none Bytes old new (subst (λ (x : Ending). StopsTurn x old new) is p) (λ other. cc) in
-      let took = took_behind r.0.1 r.0.2 in
-      (took.0, took.1, took.2 ∙ all ∙ r.0.2.limit ∙ s.limit)
+      let took = took_behind r.0 in
+      (took.0, took.1, took.2 ∙ all ∙ r.0.limit ∙ s.limit)
 
-  pub took_less : (e : Ending) → StopsTurn e old new → (e ≡ Complete) ⊎ (e ≡ Input)
+  took_cut : EndsCut old.left new.left old.lines new.lines → TookLess (2 ^ 40) left new.left
+  took_cut p = (
+    (s.handed ++ p.gone) ++ new.lines.ahead,
+    consumed_cut p,
+    omega (
+      arith,
+      s.count,
+      p.reads.handed,
+      p.before_limit,
+      p.reads.limit,
+      s.limit,
+      length-append (s.handed ++ p.gone) new.lines.ahead,
+      length-append s.handed p.gone,
+    ),
+  )
+
+  pub took_less : (e : Ending) → StopsTurn e old new → (e ≡ Complete) ⊎ (e ≡ Cut) ⊎ (e ≡ Input)
       → (e ≡ Input → taken_bytes new.lines < new.lines.limit) → TookLess (2 ^ 40) left new.left
   took_less e p by less = elim by [
     | inl complete ↦ absurd (not_complete e old new p complete)
-    | inr is ↦
-        let r = reads_none Input old new (subst (λ (x : Ending). StopsTurn x old new) is p) (λ other. cc) in
-        let took = took_behind r.0.1 r.0.2 in
-        (took.0, took.1, omega (arith, took.2, less is, r.0.2.limit, s.limit))
+    | inr other ↦ elim other [
+      | inl is ↦ took_cut (reads_none Cut old new (subst (λ (x : Ending). StopsTurn x old new) is p) (λ other. cc)).0
+      | inr is ↦
+          let r = reads_none Input old new (subst (λ (x : Ending). StopsTurn x old new) is p) (λ other. cc) in
+          let took = took_behind r.0 in
+          (took.0, took.1, omega (arith, took.2, less is, r.0.limit, s.limit))
+    ]
   ]
 
   pub took_to_end : EndsInput old.left new.left old.lines new.lines → TookLess (2 ^ 40) left new.left

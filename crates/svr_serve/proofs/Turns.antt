@@ -1,19 +1,16 @@
 -- What holds between two turns: at the start, and after one that served a request.
-use Rattle.std.proofs.Common.{◌≡◌, ℕ, ◌≤◌, ◌^◌, inl, Bool, true, false, List, [], ◌∷◌, ◌++◌, map, refl, sym, ap, ◌∙◌, subst, arith, append_assoc, length-append, Option, Result}
+use Rattle.std.proofs.Common.{◌≡◌, ℕ, ◌≤◌, ◌^◌, inl, inr, Bool, true, false, List, [], ◌∷◌, ◌++◌, refl, sym, ap, ◌∙◌, subst, arith, append_assoc, length-append, Option}
 use Rattle.std.specs.Io.KnownBytes.{Appends, Consumes}
 use Rattle.std.proofs.KnownBytes.{Appends-nil, Appends-trans, Consumes-nil, Consumes-trans}
 use Rattle.svr_core.specs.Run.{IsRun, MayReply, state_in_end, state_then, texts}
 use Rattle.svr_core.specs.State.{State, empty}
-use Rattle.svr_lines.specs.Lines.{IsWholeLines, pieces_of}
 use Rattle.svr_lines.specs.Reading.{Reading, Reads, new_reading, taken_bytes}
-use Rattle.svr_lines.proofs.Splits.{IsWholeLines-append}
-use Rattle.svr_request.specs.declared.refusal.Refusal.{Refusal}
 use Rattle.svr_request.specs.declared.reply.Reply.{Reply}
 use Rattle.svr_request.specs.Replies.{text_of}
-use Rattle.svr_request.specs.Requests.{Wanted}
-use Rattle.svr_serve.specs.Input.{line_request, requests_of}
-use Rattle.svr_serve.specs.Serving.{Answers, Replies, SoFar, Standing, TakesRequest, standing}
-use Rattle.svr_serve.proofs.Pieces.{pieces_of-handed, requests_of-none, requests_of-whole, whole-handed}
+use Rattle.svr_request.specs.Requests.{Submitted}
+use Rattle.svr_serve.specs.Input.{requests_of}
+use Rattle.svr_serve.specs.Serving.{Answers, IsWhole, Replies, SoFar, Standing, TakesRequest, standing}
+use Rattle.svr_serve.proofs.Joins.{IsWhole-more, IsWhole-nil, ends_in_block-more, ends_in_block-nil, requests_of-more, requests_of-none}
 use Rattle.svr_serve.proofs.Runs.{IsRun-more, changes_then, state_in_end-more, texts-more}
 
 -- ---- the start
@@ -31,10 +28,11 @@ SoFar-start left taken lines core new none =
       count = ap (λ r. r.handed) new;
       few = omega (arith, ap taken_bytes new);
       limit = ap (λ r. r.limit) new;
-      whole = λ _. inl refl;
+      whole = λ _. IsWhole-nil;
+      uncut = ends_in_block-nil;
       known_end = λ is. absurd (not_both lines.ended is open_end);
       before_limit = λ is. absurd (not_both lines.ended is open_end);
-      run = subst (λ (rs : List (Result Wanted Refusal)). IsRun empty rs []) (sym (requests_of-none [] refl)) tt;
+      run = subst (λ (rs : List Submitted). IsRun empty rs []) (sym (requests_of-none [] refl)) tt;
       state = none ∙ ap (λ rs. state_in_end empty rs []) (sym (requests_of-none [] refl));
       changes = omega (arith, ap (λ s. s.changes) none);
       written = Appends-nil taken;
@@ -57,33 +55,28 @@ Consumes-reads a b c old new handed gone bytes p r = subst (Consumes a c) (sym (
 
 -- ---- one request more
 
--- the requests of what was handed out, with the next one
-more_requests : (handed gone line : List ℕ) (request : Result Wanted Refusal) → IsWholeLines handed → pieces_of gone ≡ line ∷ []
-    → request ≡ line_request line → requests_of (handed ++ gone) ≡ requests_of handed ++ request ∷ []
-more_requests handed gone line request w one is = requests_of-whole handed gone w
-    ∙ ap (λ ls. requests_of handed ++ map line_request ls) one ∙ ap (λ r. requests_of handed ++ r ∷ []) (sym is)
-
 more_text : (a b c : Option (List ℕ)) (replies : List Reply) (reply : Reply) → Appends a b (texts replies)
     → Appends b c (text_of reply) → Appends a c (texts (replies ++ reply ∷ []))
 more_text a b c replies reply p q = subst (Appends a c) (sym (texts-more replies reply))
     (Appends-trans a b c (texts replies) (text_of reply) p q)
 
 module _ (left taken : Option (List ℕ)) (old new : Standing) (s : SoFar left taken old) where
-  next_requests : (request : Result Wanted Refusal) (t : TakesRequest old.left new.left old.lines new.lines request)
+  next_requests : (request : Submitted) (t : TakesRequest old.left new.left old.lines new.lines request)
       → requests_of (s.handed ++ t.gone) ≡ requests_of s.handed ++ request ∷ []
-  next_requests request t = more_requests s.handed t.gone t.line request (s.whole t.open_end)
-      (pieces_of-handed t.gone t.line new.lines new.left t.hands_out) t.is
+  next_requests request t = requests_of-more s.handed t.gone request (s.whole t.open_end) t.part
 
-  pub next_whole : (request : Result Wanted Refusal) (t : TakesRequest old.left new.left old.lines new.lines request)
-      → new.lines.ended ≡ false → IsWholeLines (s.handed ++ t.gone)
-  next_whole request t is = IsWholeLines-append s.handed t.gone (s.whole t.open_end)
-      (whole-handed t.gone t.line new.lines new.left t.hands_out is)
+  pub next_whole : (request : Submitted) (t : TakesRequest old.left new.left old.lines new.lines request)
+      → new.lines.ended ≡ false → IsWhole (s.handed ++ t.gone)
+  next_whole request t is = elim t.part [
+    | inl holds ↦ IsWhole-more s.handed t.gone request (s.whole t.open_end) holds
+    | inr end ↦ absurd (not_both new.lines.ended end.0.ended is)
+  ]
 
   pub next_run : (reply : Reply) (a : Answers old.left new.left old.lines new.lines old.core new.core reply)
       → IsRun empty (requests_of (s.handed ++ a.takes.gone)) (s.replies ++ reply ∷ [])
   next_run reply a =
       let may = subst (λ (core : State). MayReply core a.request reply) s.state a.may in
-      subst (λ (rs : List (Result Wanted Refusal)). IsRun empty rs (s.replies ++ reply ∷ [])) (sym (next_requests a.request a.takes))
+      subst (λ (rs : List Submitted). IsRun empty rs (s.replies ++ reply ∷ [])) (sym (next_requests a.request a.takes))
       (IsRun-more a.request reply empty (requests_of s.handed) s.replies s.run may)
 
   next_state : (reply : Reply) (a : Answers old.left new.left old.lines new.lines old.core new.core reply)
@@ -105,6 +98,7 @@ module _ (left taken : Option (List ℕ)) (old new : Standing) (s : SoFar left t
         few = omega (arith, few, limit);
         limit = limit;
         whole = next_whole a.request t;
+        uncut = ends_in_block-more s.handed t.gone a.request (s.whole t.open_end) t.part s.uncut;
         known_end = t.known_end;
         before_limit = λ is. omega (arith, t.before_limit is, limit);
         run = next_run reply a;

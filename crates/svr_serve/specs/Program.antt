@@ -1,14 +1,13 @@
 -- What the program does, by the status that it ends with.
-use Rattle.std.specs.Prelude.{◌≡◌, ◌⊎◌, ◌<◌, ℕ, ◌==◌, Bool, false, List, [], ◌∷◌, ◌++◌, length, codes, if◌then◌else◌, Option, IfSome, Result}
+use Rattle.std.specs.Prelude.{◌≡◌, ◌⊎◌, ◌<◌, ℕ, ◌==◌, Bool, true, false, List, [], ◌∷◌, ◌++◌, length, codes, if◌then◌else◌, Option, IfSome}
 use Rattle.std.specs.Str.{bytes_eq}
 use Rattle.std.specs.Io.KnownBytes.{Appends, Consumes, IsAtEnd}
 use Rattle.svr_edge.specs.Causes.{Rose}
 use Rattle.svr_core.specs.Run.{IsRun, texts}
 use Rattle.svr_core.specs.State.{empty}
-use Rattle.svr_request.specs.declared.refusal.Refusal.{Refusal}
 use Rattle.svr_request.specs.declared.reply.Reply.{Reply}
-use Rattle.svr_request.specs.Requests.{Wanted}
-use Rattle.svr_serve.specs.Input.{requests_of, whole_requests}
+use Rattle.svr_request.specs.Requests.{Submitted}
+use Rattle.svr_serve.specs.Input.{ends_in_block, requests_of, whole_requests}
 
 -- the words, the program's name first, ask to serve
 abbrev pub asks_to_serve : List (List ℕ) → Bool
@@ -18,7 +17,8 @@ asks_to_serve _ = false
 -- the line of a status that tells a fault
 abbrev pub fault_line : ℕ → List ℕ
 fault_line status =
-    if status == 2 then codes "{\"fault\":\"words\"}\n"
+    if status == 1 then codes "{\"fault\":\"cut\"}\n"
+    else if status == 2 then codes "{\"fault\":\"words\"}\n"
     else if status == 3 then codes "{\"fault\":\"input\"}\n"
     else if status == 7 then codes "{\"fault\":\"memory\"}\n"
     else if status == 8 then codes "{\"fault\":\"long\"}\n"
@@ -40,15 +40,21 @@ AnswersAll input replies = IsRun empty (requests_of input) replies
 
 -- these are the replies to the first requests of the input, from nothing
 pub record AnswersFirst (input : List ℕ) (replies : List Reply) : Type 0 where
-  pub requests : List (Result Wanted Refusal)
-  pub others : List (Result Wanted Refusal)
+  pub requests : List Submitted
+  pub others : List Submitted
   pub first : requests_of input ≡ requests ++ others
   pub run : IsRun empty requests replies
 
--- the input was read to its end, and what was written are the replies to all its requests
+-- the input was read to its end, which isn't inside a block, and what was written are the replies to all its requests
 pub record Served (left rest taken now : Option (List ℕ)) : Type 0 where
   pub end : IsAtEnd rest
+  pub uncut : IfSome left (λ input. ends_in_block input ≡ false)
   pub replies : IfSome left (λ input. (replies : List Reply) × AnswersAll input replies × Appends taken now (texts replies))
+
+-- the input was read to its end, which is inside a block
+pub record EndsInBlock (left rest : Option (List ℕ)) : Type 0 where
+  pub end : IsAtEnd rest
+  pub cut : IfSome left (λ input. ends_in_block input ≡ true)
 
 -- what was written is the beginning of the replies to the first requests of the input
 abbrev pub WritesPart : Option (List ℕ) → Option (List ℕ) → Option (List ℕ) → Type 0
@@ -66,7 +72,7 @@ Stopped status before after left taken now = IfSome left (λ input.
     (replies : List Reply) × (line : List ℕ) × AnswersFirst input replies × WritesFault status before after line
     × Appends taken now (texts replies ++ line))
 
--- what was written are the replies to all requests whose line is ended by LF in the bytes that were taken, and then the fault line
+-- what was written are the replies to all requests that stand whole in the bytes that were taken, and then the fault line
 abbrev pub StoppedBehind : ℕ → ℕ → ℕ → Option (List ℕ) → Option (List ℕ) → Option (List ℕ) → Option (List ℕ) → Type 0
 StoppedBehind status before after left rest taken now =
     (bytes : List ℕ) × (replies : List Reply) × (line : List ℕ) × Consumes left rest bytes

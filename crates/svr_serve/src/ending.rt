@@ -7,6 +7,8 @@ ghost use Rattle.svr_serve.specs.Serving.{status_of};
 pub(crate) enum Ending {
     /// The input was read to its end.
     Complete,
+    /// The input ended inside a block.
+    Cut,
     /// The words of the command line have no reading.
     Words,
     /// The source failed.
@@ -25,6 +27,7 @@ impl Ending {
     {
         match self {
             Ending::Complete => 0,
+            Ending::Cut => 1,
             Ending::Words => 2,
             Ending::Input => 3,
             Ending::Output => 4,
@@ -38,6 +41,7 @@ impl Ending {
     {
         match self {
             Ending::Complete | Ending::Output => b"",
+            Ending::Cut => b"{\"fault\":\"cut\"}\n",
             Ending::Words => b"{\"fault\":\"words\"}\n",
             Ending::Input => b"{\"fault\":\"input\"}\n",
             Ending::Memory => b"{\"fault\":\"memory\"}\n",

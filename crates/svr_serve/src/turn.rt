@@ -1,17 +1,17 @@
-ghost use Rattle.std.specs.Prelude.{◌≡◌, ◌+◌, ◌<◌, ◌≤◌, ◌^◌, true, false, Ok, None, IfOk, IfSome, IfErr, IsErrOf};
+ghost use Rattle.std.specs.Prelude.{◌≡◌, ◌⊎◌, ◌+◌, ◌<◌, ◌≤◌, ◌^◌, true, false, Ok, Err, None, IfOk, OnOk, IsOk, IfSome, IfErr, IsErrOf, unwrap_or};
 ghost use Rattle.svr_core.specs.Run.{MayReply, state_then};
 ghost use Rattle.svr_edge.specs.Causes.{Rose};
 ghost use Rattle.svr_lines.specs.Reading.{taken_bytes, KnowsEnd};
-ghost use Rattle.svr_request.specs.Requests.{seen_or_refused};
-ghost use Rattle.svr_serve.specs.Serving.{TakesRequest, EndsInput, StopsReading, PrintsReply, TurnDoes, standing};
+ghost use Rattle.svr_request.specs.Requests.{seen_or_refused, with_block};
+ghost use Rattle.svr_serve.specs.Serving.{TakesNext, TakesBlock, TakesRequest, EndsInput, StopsBlock, StopsReading, PrintsReply, TurnDoes, ending_of, standing};
 
 use crate::ending::Ending;
 use crate::output::send;
 use std::alloc::Global;
 use svr_core::Core;
 use svr_edge::{Failed, Memory, Sink, Source};
-use svr_lines::{InputStop, Lines, Piece};
-use svr_request::{Refusal, ReplyBuf, Request, print_reply, read_request};
+use svr_lines::{BlockEnd, InputStop, Lines, Piece};
+use svr_request::{Asked, Refusal, ReplyBuf, Request, print_reply, read_request};
 
 /// What one turn of the program came to.
 pub(crate) enum Turn {
@@ -23,15 +23,82 @@ pub(crate) enum Turn {
     Stop(Ending),
 }
 
-/// Takes the next request of the input, or why the line is none; `None` at the end of the input.
+/// Why reading stopped.
+fn ending_of(stop: InputStop) -> Ending
+    ensures { result ≡ ending_of stop }
+{
+    match stop {
+        InputStop::Input => Ending::Input,
+        InputStop::Bytes => Ending::Bytes,
+    }
+}
+
+/// Takes the next line of the input: what it asks for, or why it is no request. `None` at the end of the input.
+fn take_line<S: Source>(
+    alloc: Global,
+    lines: &mut Lines,
+    input: &mut S,
+) -> Result<Option<Asked>, Ending>
+    requires { KnowsEnd lines.old (S.left input.old) }
+    ensures asked { IfOk result (λ taken. IfSome taken (λ asked. TakesNext
+        (S.left input.old) (S.left input.new) lines.old lines.new (seen_or_refused asked.request) (unwrap_or asked.block 0))) }
+    ensures end { result ≡ Ok None → EndsInput (S.left input.old) (S.left input.new) lines.old lines.new }
+    ensures stop { IfErr result (λ ending.
+        StopsReading ending (S.left input.old) (S.left input.new) lines.old lines.new) }
+    ensures few { taken_bytes lines.new ≤ lines.new.limit }
+    ensures input { IsErrOf result Ending.Input
+        → Rose (S.faults input.old) (S.faults input.new) × (taken_bytes lines.new < lines.new.limit) }
+    ensures bytes { IsErrOf result Ending.Bytes → taken_bytes lines.new ≡ lines.new.limit }
+    ensures uncut { IsErrOf result Ending.Cut → ⊥ }
+    ensures later { S.faults input.old ≤ S.faults input.new }
+{
+    match lines.line(input) {
+        Ok(Piece::Line) => match read_request(alloc, lines.text()) {
+            Ok(asked) => Ok(Some(asked)),
+            Err(Memory) => Err(Ending::Memory),
+        },
+        Ok(Piece::TooLong) => Ok(Some(Asked {
+            block: None,
+            request: Err(Refusal::LineTooLong),
+        })),
+        Ok(Piece::End) => Ok(None),
+        Err(stop) => Err(ending_of(stop)),
+    }
+}
+
+/// Takes the block of so many bytes that comes next.
+fn take_block<S: Source>(lines: &mut Lines, input: &mut S, size: u64) -> Result<(), Ending>
+    requires { KnowsEnd lines.old (S.left input.old) }
+    ensures block { OnOk result (TakesBlock (S.left input.old) (S.left input.new) lines.old lines.new size) }
+    ensures known_end { OnOk result (KnowsEnd lines.new (S.left input.new)) }
+    ensures ended { lines.old.ended ≡ true
+        → (lines.new.ended ≡ true) × (taken_bytes lines.new ≡ taken_bytes lines.old) }
+    ensures before_limit { IsOk result ⊎ (result ≡ Err Ending.Cut)
+        → lines.old.ended ≡ false → lines.new.ended ≡ true → taken_bytes lines.new < lines.new.limit }
+    ensures stop { IfErr result (λ ending.
+        StopsBlock ending (S.left input.old) (S.left input.new) lines.old lines.new size) }
+    ensures few { taken_bytes lines.new ≤ lines.new.limit }
+    ensures input { IsErrOf result Ending.Input
+        → Rose (S.faults input.old) (S.faults input.new) × (taken_bytes lines.new < lines.new.limit) }
+    ensures bytes { IsErrOf result Ending.Bytes → taken_bytes lines.new ≡ lines.new.limit }
+    ensures later { S.faults input.old ≤ S.faults input.new }
+{
+    match lines.block(input, size) {
+        Ok(BlockEnd::Whole | BlockEnd::Dropped) => Ok(()),
+        Ok(BlockEnd::Cut) => Err(Ending::Cut),
+        Err(stop) => Err(ending_of(stop)),
+    }
+}
+
+/// Takes the next request of the input, or why the line is none, and its block. `None` at the end of the input.
 fn take_request<S: Source>(
     alloc: Global,
     lines: &mut Lines,
     input: &mut S,
 ) -> Result<Option<Result<Request, Refusal>>, Ending>
     requires { KnowsEnd lines.old (S.left input.old) }
-    ensures request { IfOk result (λ taken. IfSome taken (λ request.
-        TakesRequest (S.left input.old) (S.left input.new) lines.old lines.new (seen_or_refused request))) }
+    ensures request { IfOk result (λ taken. IfSome taken (λ request. TakesRequest
+        (S.left input.old) (S.left input.new) lines.old lines.new (with_block (seen_or_refused request) lines.new.block))) }
     ensures end { result ≡ Ok None → EndsInput (S.left input.old) (S.left input.new) lines.old lines.new }
     ensures stop { IfErr result (λ ending.
         StopsReading ending (S.left input.old) (S.left input.new) lines.old lines.new) }
@@ -41,16 +108,11 @@ fn take_request<S: Source>(
     ensures bytes { IsErrOf result Ending.Bytes → taken_bytes lines.new ≡ lines.new.limit }
     ensures later { S.faults input.old ≤ S.faults input.new }
 {
-    match lines.line(input) {
-        Ok(Piece::Line) => match read_request(alloc, lines.text()) {
-            Ok(request) => Ok(Some(request)),
-            Err(Memory) => Err(Ending::Memory),
-        },
-        Ok(Piece::TooLong) => Ok(Some(Err(Refusal::LineTooLong))),
-        Ok(Piece::End) => Ok(None),
-        Err(InputStop::Input) => Err(Ending::Input),
-        Err(InputStop::Bytes) => Err(Ending::Bytes),
-    }
+    let Some(asked) = take_line(alloc, lines, input)? else {
+        return Ok(None);
+    };
+    take_block(lines, input, asked.block.unwrap_or(0))?;
+    Ok(Some(asked.request))
 }
 
 /// Takes the next request, answers it and prints the reply. False at the end of the input.
@@ -77,7 +139,7 @@ fn print_next<S: Source>(
 {
     match take_request(alloc, lines, input) {
         Ok(Some(request)) => {
-            let reply = core.answer(alloc, request);
+            let reply = core.answer(alloc, request, lines.block_bytes());
             print_reply(&reply, buffer);
             Ok(true)
         }

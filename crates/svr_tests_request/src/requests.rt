@@ -221,7 +221,7 @@ fn cells_are_whole_numbers_and_texts(rt: HostRuntime) -> Result<(), Fail> {
 #[test]
 fn the_op_is_unknown(rt: HostRuntime) -> Result<(), Fail> {
     let lines = [
-        r#"{"op":"load","table":"d"}"#,
+        r#"{"op":"Load","table":"d","bytes":4}"#,
         r#"{"op":"Merge"}"#,
         r#"{"op":"merge "}"#,
         r#"{"op":""}"#,

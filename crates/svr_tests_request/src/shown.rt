@@ -4,7 +4,7 @@ use std::process::Abort;
 use std::str::from_utf8;
 use svr_edge::{Items, Memory, Text};
 use svr_num::Mode;
-use svr_request::{Request, read_request};
+use svr_request::{Refusal, Request, read_request};
 use svr_rows::Given;
 
 /// ` 'a' -1 ?` for a row of a text, a whole number and another value.
@@ -42,6 +42,9 @@ fn shown_request(alloc: Global, request: &Request) -> Result<String, AllocError>
         Request::Insert { table, row } => shown_change(alloc, "insert", table, row),
         Request::Update { table, row } => shown_change(alloc, "update", table, row),
         Request::Delete { table, id } => format!(in alloc; "delete {} {id}", table.as_str()),
+        Request::Load { table, header } => {
+            format!(in alloc; "load {} {header}", table.as_str())
+        }
         Request::Search { query, mode, k } => match mode {
             Mode::All => format!(in alloc; "search all {k} {}", query.as_str()),
             Mode::Any => format!(in alloc; "search any {k} {}", query.as_str()),
@@ -53,12 +56,28 @@ fn shown_request(alloc: Global, request: &Request) -> Result<String, AllocError>
     }
 }
 
-/// What a line asks for, as a short text, or the name of its refusal.
-fn shown(alloc: Global, line: &[u8]) -> Result<String, Memory> {
-    match read_request(alloc, line)? {
-        Ok(request) => Ok(shown_request(alloc, &request)?),
-        Err(refusal) => Ok(format!(in alloc; "{refusal:?}")?),
+/// What is asked for, as a short text, or the name of the refusal.
+fn shown_asked(alloc: Global, request: Result<Request, Refusal>) -> Result<String, AllocError> {
+    match request {
+        Ok(request) => shown_request(alloc, &request),
+        Err(refusal) => format!(in alloc; "{refusal:?}"),
     }
+}
+
+fn shown_block(alloc: Global, block: Option<u64>) -> Result<String, AllocError> {
+    match block {
+        Some(block) => format!(in alloc; " +{block}"),
+        None => Ok(String::new(alloc)),
+    }
+}
+
+/// What a line asks for, and the length of its block behind `+`.
+fn shown(alloc: Global, line: &[u8]) -> Result<String, Memory> {
+    let asked = read_request(alloc, line)?;
+    let block = shown_block(alloc, asked.block)?;
+    let mut shown = shown_asked(alloc, asked.request)?;
+    shown.push_str(block.as_str())?;
+    Ok(shown)
 }
 
 /// Asserts that a line asks for this.

@@ -3,7 +3,7 @@ ghost use Rattle.svr_tests_rows.specs.Schema.{docs, ids};
 
 use std::alloc::{AllocError, Global};
 use svr_edge::{Items, Memory, Text};
-use svr_rows::{Change, Given, Row, Tables};
+use svr_rows::{Change, Given, LoadRefusal, Row, Tables};
 use svr_schema::{Cell, Column, ColumnKind, MethodSpec, Schema, Table};
 
 fn column(alloc: Global, name: &str, kind: ColumnKind) -> Result<Column, Memory>
@@ -74,6 +74,16 @@ impl TwoTables {
         }
         let before = self.tables.apply(change)?;
         Ok(line_of(alloc, before.as_ref())?)
+    }
+
+    /// Tests the inserts of rows: `-` where none is refused, or the number of the first that is, and why.
+    pub fn load(&self, alloc: Global, table: u8, rows: &[Row]) -> Result<String, Memory> {
+        let few = &rows[..rows.len().min(8_388_608)];
+        match self.tables.check_all(alloc, table, few) {
+            Ok(()) => Ok(String::from_str(alloc, "-")?),
+            Err(LoadRefusal::At { number, why }) => Ok(format!(in alloc; "{number} {why:?}")?),
+            Err(LoadRefusal::Memory) => Err(Memory),
+        }
     }
 
     /// Inserts the rows with the ids from 1 to `count` and these further cells: how many were accepted.
@@ -174,6 +184,15 @@ fn row(alloc: Global, words: &str) -> Result<Row, AllocError> {
     Ok(Row {
         cells: Items::from_vec(cells),
     })
+}
+
+/// The rows of which a `,` stands between any two.
+pub fn rows(alloc: Global, lines: &str) -> Result<Vec<Row>, AllocError> {
+    let mut rows = Vec::new(alloc);
+    for words in lines.split_terminator(',') {
+        rows.push(row(alloc, words)?)?;
+    }
+    Ok(rows)
 }
 
 /// The cells with a blank between; of a text its bytes, or how many they are where they are more than eight.

@@ -1,4 +1,4 @@
-//! Rows that are made, changes that are made or refused, and the limits, on cases that were worked out by hand.
+//! Rows that are made, changes that are made or refused, loads, and the limits, on cases that were worked out by hand.
 #![tactic(auto)]
 
 #[cfg(test)]
@@ -7,5 +7,7 @@ mod changes;
 mod helpers;
 #[cfg(test)]
 mod limits;
+#[cfg(test)]
+mod loads;
 #[cfg(test)]
 mod made_rows;

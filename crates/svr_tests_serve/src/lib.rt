@@ -6,6 +6,8 @@ mod changes;
 #[cfg(test)]
 mod faults;
 #[cfg(test)]
+mod loads;
+#[cfg(test)]
 mod long_lines;
 #[cfg(test)]
 mod numbers;

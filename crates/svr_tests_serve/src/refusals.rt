@@ -8,7 +8,9 @@ const NO_SCHEMA: &str = r#"{"op":"merge"} => {"error":"unknown-op"}
 {"op":"merge-begin"} => {"error":"unknown-op"}
 {"op":"merge-slice","terms":5} => {"error":"unknown-op"}
 {"op":"merge-publish"} => {"error":"unknown-op"}
-{"op":"load","table":"docs","bytes":4} => {"error":"unknown-op"}
+{"op":"loads","table":"docs","bytes":4} => {"error":"unknown-op"}
+{"op":"load","table":"films","bytes":0} => {"error":"no-schema"}
+{"op":"load","table":5,"bytes":0} => {"error":"bad-shape"}
 abc => {"error":"not-json"}
 {"op":"merge","k":1} => {"error":"bad-shape"}
 {"op":"sing","op":"search"} => {"error":"bad-shape"}

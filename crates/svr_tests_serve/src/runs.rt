@@ -40,6 +40,27 @@ pub fn run(
     Ok((status, String::from_utf8_lossy(alloc, sink.taken())?))
 }
 
+/// Asserts how a run over an input in steps of so many bytes ends, and what it writes.
+pub fn assert_ends(
+    rt: &(impl Abort + AllocGlobal),
+    input: &[u8],
+    step: u32,
+    status: u8,
+    wanted: &str,
+) -> Result<(), Memory>
+    requires { 0 < step }
+{
+    let mut source = source(rt.alloc(), input, step, &[])?;
+    let mut sink = sink(rt.alloc(), step, &[])?;
+    let (ended, output) = run(rt.alloc(), &["svr", "serve"], &mut source, &mut sink)?;
+    assert_eq!(rt;
+        (ended, output.as_str()),
+        (status, wanted),
+        "in steps of {step}"
+    );
+    Ok(())
+}
+
 /// Asserts that all of an input is answered so in steps of so many bytes.
 pub fn assert_served(
     rt: &(impl Abort + AllocGlobal),
@@ -49,15 +70,7 @@ pub fn assert_served(
 ) -> Result<(), Memory>
     requires { 0 < step }
 {
-    let mut source = source(rt.alloc(), input, step, &[])?;
-    let mut sink = sink(rt.alloc(), step, &[])?;
-    let (status, output) = run(rt.alloc(), &["svr", "serve"], &mut source, &mut sink)?;
-    assert_eq!(rt;
-        (status, output.as_str()),
-        (0, wanted),
-        "in steps of {step}"
-    );
-    Ok(())
+    assert_ends(rt, input, step, 0, wanted)
 }
 
 fn push_line(text: &mut String, line: &str) -> Result<(), AllocError> {

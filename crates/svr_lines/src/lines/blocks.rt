@@ -9,7 +9,7 @@ use crate::lines::{BLOCK_BYTES, BlockEnd, InputStop, Lines};
 use svr_edge::Source;
 
 impl Lines {
-    /// The block that was handed out last. The next call of `block` loses it.
+    /// The block that was handed out last; no bytes, where it was dropped. The next call of `block` loses it.
     pub fn block_bytes(&self) -> &[u8]
         ensures { result.now ≡ self.now.block }
     {
@@ -28,7 +28,7 @@ impl Lines {
         requires { kept ≡ true → length self.old.block + most ≤ BLOCK_BYTES }
         ensures count { result ≡ min most (length self.old.ahead) }
         ensures passes { Passes self.old self.new result }
-        ensures block { kept ≡ true → self.new.block ≡ self.old.block ++ take result self.old.ahead }
+        ensures block { self.new.block ≡ (if kept then self.old.block ++ take result self.old.ahead else self.old.block) }
         ensures ended { self.new.ended ≡ self.old.ended }
     {
         let count = most.min((self.end - self.start) as u64) as usize;
@@ -55,6 +55,7 @@ impl Lines {
         // Behind the end that was seen there is nothing.
         ensures known_end { OnOk result (KnowsEnd self.new (S.left input.new)) }
         ensures after_end { self.old.ended ≡ true → result ≡ Ok (block_at_end size) }
+        ensures ended { self.old.ended ≡ true → (self.new.ended ≡ true) × (taken_bytes self.new ≡ taken_bytes self.old) }
 
         // No more bytes are taken than may be, which is tested before the end.
         ensures few { taken_bytes self.new ≤ self.new.limit }

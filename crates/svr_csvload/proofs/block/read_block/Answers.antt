@@ -16,8 +16,8 @@ returns-then-not-branch-clause-rows c =
 
 pub read_rows-requires-clause-few : goal.read_rows-requires-clause-few
 read_rows-requires-clause-few c =
-    let all : length (ahead c.block_reader-reader.result) ≤ 8388609 =
-    rw c.block_reader-reader.ensures.records (few_records_of default_config 8388608 c.args.bytes.now c.requires.few) in
+    let all : length (ahead c.block_reader-reader.result) ≤ 8388608 =
+    rw c.block_reader-reader.ensures.records (omega (arith, few_records_of default_config c.args.bytes.now, c.requires.few)) in
     elim c.else-header.branch [
       | else-header-via-then-header+in_ok-read_next+else-not-branch w ↦
           let yes : w.in_ok-read_next.field-0 ≡ true = search rules in

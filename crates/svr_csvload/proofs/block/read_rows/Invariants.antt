@@ -9,7 +9,7 @@ abbrev pub invariant-loop-rows : goal.invariant-loop-rows
 invariant-loop-rows l = record {
   between : IsBetween l.reader;
   made : rows_in (map kind_in l.columns) (ahead l.fn.reader) ≡ after l.rows.items (rows_in (map kind_in l.columns) (ahead l.reader));
-  few : length l.rows.items + length (ahead l.reader) ≤ 8388609;
+  few : length l.rows.items + length (ahead l.reader) ≤ 8388608;
 }
 
 abbrev pub decreases-loop-rows : goal.decreases-loop-rows

@@ -1,6 +1,6 @@
 use Rattle.std.proofs.Common.{◌≡◌, ◌⊎◌, ℕ, [], ◌∷◌, sym, ◌∙◌, subst, Contains}
 use Rattle.svr_serve.specs.Program.{StoppedBehind}
-use Rattle.svr_serve.proofs.Endings.{status_among, served_by, part_by, stopped_by, memory_by, WritesFault-of}
+use Rattle.svr_serve.proofs.Endings.{cut_by, status_among, served_by, part_by, stopped_by, memory_by, WritesFault-of}
 use Rattle.svr_serve.proofs.serve.svr.Goals as goal
 
 pub returns-clause-served : goal.returns-clause-served
@@ -33,7 +33,12 @@ returns-clause-stopped g c = λ h.
     let fault = WritesFault-of e c.finish-2.result _ _ _ line.0 is c.serve-ending.ensures.later line.1 in
     subst (λ (s : ℕ). StoppedBehind s before after left rest taken now) (sym is)
     (stopped_by rest taken _ now line.0 line.2 e left before after c.serve-ending.ensures.ends fault
-    (subst (λ (s : ℕ). (s ≡ 3) ⊎ (s ≡ 8)) is h))
+    (subst (λ (s : ℕ). (s ≡ 1) ⊎ (s ≡ 3) ⊎ (s ≡ 8)) is h))
+
+pub returns-clause-cut : goal.returns-clause-cut
+returns-clause-cut g c = λ h.
+    let line = c.finish-2.ensures.line in
+    cut_by _ _ _ _ line.0 line.2 c.serve-ending.result _ c.serve-ending.ensures.ends (sym c.finish-2.ensures.status ∙ h)
 
 pub returns-clause-memory : goal.returns-clause-memory
 returns-clause-memory g c = λ h.
@@ -45,4 +50,4 @@ returns-clause-memory g c = λ h.
 
 pub returns-clause-statuses : goal.returns-clause-statuses
 returns-clause-statuses g c =
-    subst (Contains (0 ∷ 2 ∷ 3 ∷ 4 ∷ 7 ∷ 8 ∷ [])) (sym c.finish-2.ensures.status) (status_among c.serve-ending.result)
+    subst (Contains (0 ∷ 1 ∷ 2 ∷ 3 ∷ 4 ∷ 7 ∷ 8 ∷ [])) (sym c.finish-2.ensures.status) (status_among c.serve-ending.result)

@@ -1,4 +1,6 @@
 use Rattle.std.proofs.Common.{◌≡◌, ◌-◌, ◌<◌, [], ◌++◌, take, refl, ap, sym, ◌∙◌, arith, Ok}
+use Rattle.std.proofs.lemmas.Bool.Decides.{nat_tests}
+use Rattle.svr_lines.specs.Reading.{taken_bytes}
 use Rattle.svr_lines.proofs.Stream.{on_err}
 use Rattle.svr_lines.proofs.Skips.{ended_once}
 use Rattle.svr_lines.proofs.Parts.{part_none, part_more, part_all, part_read, part_stops}
@@ -10,7 +12,7 @@ loop-missing-init g c =
     let same = ap (λ r. r.ended) cleared in (
       ([], [], part_none _ c.args.self.now c.clear_block.new.self c.args.size _ cleared),
       λ is. let end = c.requires (sym same ∙ is) in (ap (λ r. r.ahead) cleared ∙ end.0, end.1),
-      λ is. (same ∙ is, refl),
+      λ is. (same ∙ is, refl, ap taken_bytes cleared),
       λ isnt. same ∙ isnt,
       omega arith,
     )
@@ -24,7 +26,7 @@ returns-else-kept-clause-block g c =
       inv.0 ++ take c.take_part.result c.loop-missing.self.ahead,
       inv.1,
       all.reads,
-      (omega (arith, all.count, c.if-missing-eq0.true), c.if-kept.false),
+      (omega (arith, all.count, c.if-missing-eq0.true), c.if-kept.false, grind (arith, nat_tests, all.block, c.if-kept.false)),
     )
 
 pub read_on-requires-clause-none : goal.read_on-requires-clause-none

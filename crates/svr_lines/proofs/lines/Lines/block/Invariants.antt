@@ -8,7 +8,7 @@ invariant-loop-missing g l =
     ((gone bytes : List ℕ) × TakesPart (g.S.Source.left l.fn.input) (g.S.Source.left l.input) l.fn.self l.self l.size l.missing l.kept
     gone bytes)
     × KnowsEnd l.self (g.S.Source.left l.input)
-    × (l.fn.self.ended ≡ true → (l.self.ended ≡ true) × (l.missing ≡ l.size))
+    × (l.fn.self.ended ≡ true → (l.self.ended ≡ true) × (l.missing ≡ l.size) × (taken_bytes l.self ≡ taken_bytes l.fn.self))
     × (l.fn.self.ended ≡ false → l.self.ended ≡ false)
     × (g.S.Source.faults l.fn.input ≤ g.S.Source.faults l.input)
 
