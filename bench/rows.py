@@ -1,5 +1,5 @@
 #!/usr/bin/env python3
-"""Times the built program: 100,000 inserts, and 1,000 searches over 20,000 rows.
+"""Times the built program: inserts, the same rows as one load, and 1,000 searches over 20,000 rows.
 
 Run it with the program's path: bench/rows.py crates/svr/out/svr
 """
@@ -19,7 +19,8 @@ SCHEMA = {
                 {"name": "stars", "type": "int"},
                 {"name": "text", "type": "text"},
             ],
-        }
+        },
+        {"name": "pad", "columns": [{"name": "id", "type": "int"}]},
     ],
     "text": {"table": "docs", "column": "text"},
     "components": [{"kind": "own", "column": "stars", "weight": 1}],
@@ -33,12 +34,21 @@ def line(**members):
     return json.dumps(members) + "\n"
 
 
-def inserts(chance, count):
+def documents(chance, count):
     ids = list(range(count))
     chance.shuffle(ids)
     for row in ids:
-        text = " ".join(chance.choices(WORDS, k=8))
-        yield line(op="insert", table="docs", row=[row, chance.randrange(1_000_000), text])
+        yield [row, chance.randrange(1_000_000), " ".join(chance.choices(WORDS, k=8))]
+
+
+def inserts(table, rows):
+    for row in rows:
+        yield line(op="insert", table=table, row=row)
+
+
+def load(table, rows):
+    block = "".join(",".join(map(str, row)) + "\n" for row in rows)
+    return [line(op="load", table=table, bytes=len(block)) + block]
 
 
 def searches(chance, count):
@@ -46,15 +56,22 @@ def searches(chance, count):
         yield line(op="search", query=" ".join(chance.sample(WORDS, 2)), mode="any", k=10)
 
 
-def seconds(program, lines):
-    text = "".join(lines).encode()
+def seconds(program, requests):
+    text = "".join(requests).encode()
     start = time.monotonic()
     done = subprocess.run([program, "serve"], input=text, capture_output=True, check=True)
     spent = time.monotonic() - start
     replies = done.stdout.splitlines()
-    assert len(replies) == len(lines)
+    assert len(replies) == len(requests)
     assert not [reply for reply in replies if b"error" in reply]
     return spent
+
+
+def compare(program, schema, name, table, rows):
+    alone = seconds(program, [schema, *inserts(table, rows)])
+    at_once = seconds(program, [schema, *load(table, rows)])
+    count = len(rows)
+    print(f"{count} {name}: {alone:.2f} s as inserts, {at_once:.2f} s as one load")
 
 
 def main():
@@ -62,9 +79,11 @@ def main():
     chance = random.Random(1)
     schema = line(op="schema", schema=SCHEMA)
     for count in (25_000, 50_000, 100_000):
-        spent = seconds(program, [schema, *inserts(chance, count)])
+        spent = seconds(program, [schema, *inserts("docs", documents(chance, count))])
         print(f"{count} inserts: {spent:.2f} s, {spent / count * 1e6:.1f} us each")
-    rows = [schema, *inserts(chance, 20_000)]
+    compare(program, schema, "rows of an id", "pad", [[row] for row in range(262_144)])
+    compare(program, schema, "documents", "docs", list(documents(chance, 100_000)))
+    rows = [schema, *inserts("docs", documents(chance, 20_000))]
     without = seconds(program, rows)
     spent = seconds(program, rows + list(searches(chance, 1_000))) - without
     print(f"1000 searches over 20000 rows: {spent:.2f} s, {spent:.2f} ms each")
