@@ -2,6 +2,9 @@ ghost use Rattle.std.specs.Prelude.{◌≡◌};
 ghost use Rattle.svr_serve.specs.Program.{fault_line};
 ghost use Rattle.svr_serve.specs.Serving.{status_of};
 
+use svr_edge::Memory;
+use svr_lines::InputStop;
+
 /// How the program ends.
 #[derive(Clone, Copy, Debug, PartialEq, Eq)]
 pub(crate) enum Ending {
@@ -19,6 +22,31 @@ pub(crate) enum Ending {
     Memory,
     /// As many bytes were read as may be.
     Bytes,
+}
+
+impl From<InputStop> for Ending {
+    ghost use Rattle.std.specs.Prelude.{◌≡◌};
+    ghost use Rattle.svr_serve.specs.Serving.{ending_of};
+
+    ghost from_gives = { λ stop ending. ending ≡ ending_of stop };
+
+    fn from(stop: InputStop) -> Ending {
+        match stop {
+            InputStop::Input => Ending::Input,
+            InputStop::Bytes => Ending::Bytes,
+        }
+    }
+}
+
+impl From<Memory> for Ending {
+    ghost use Rattle.std.specs.Prelude.{◌≡◌};
+    ghost use Rattle.svr_serve.specs.declared.ending.Ending.TheVariants as ending;
+
+    ghost from_gives = { λ _ why. why ≡ ending.Memory };
+
+    fn from(_memory: Memory) -> Ending {
+        Ending::Memory
+    }
 }
 
 impl Ending {

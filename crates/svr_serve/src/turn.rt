@@ -3,14 +3,14 @@ ghost use Rattle.svr_core.specs.Run.{MayReply, state_then};
 ghost use Rattle.svr_edge.specs.Causes.{Rose};
 ghost use Rattle.svr_lines.specs.Reading.{taken_bytes, KnowsEnd};
 ghost use Rattle.svr_request.specs.Requests.{seen_or_refused, with_block};
-ghost use Rattle.svr_serve.specs.Serving.{TakesNext, TakesBlock, TakesRequest, EndsInput, StopsBlock, StopsReading, PrintsReply, TurnDoes, ending_of, standing};
+ghost use Rattle.svr_serve.specs.Serving.{TakesNext, TakesBlock, TakesRequest, EndsInput, StopsBlock, StopsReading, PrintsReply, TurnDoes, standing};
 
 use crate::ending::Ending;
 use crate::output::send;
 use std::alloc::Global;
 use svr_core::Core;
-use svr_edge::{Failed, Memory, Sink, Source};
-use svr_lines::{BlockEnd, InputStop, Lines, Piece};
+use svr_edge::{Failed, Sink, Source};
+use svr_lines::{BlockEnd, Lines, Piece};
 use svr_request::{Asked, Refusal, ReplyBuf, Request, print_reply, read_request};
 
 /// What one turn of the program came to.
@@ -21,16 +21,6 @@ pub(crate) enum Turn {
     Ended,
     /// The program can't go on. A part of a reply may be written.
     Stop(Ending),
-}
-
-/// Why reading stopped.
-fn ending_of(stop: InputStop) -> Ending
-    ensures { result ≡ ending_of stop }
-{
-    match stop {
-        InputStop::Input => Ending::Input,
-        InputStop::Bytes => Ending::Bytes,
-    }
 }
 
 /// Takes the next line of the input: what it asks for, or why it is no request. `None` at the end of the input.
@@ -49,20 +39,15 @@ fn take_line<S: Source>(
     ensures input { IsErrOf result Ending.Input
         → Rose (S.faults input.old) (S.faults input.new) × (taken_bytes lines.new < lines.new.limit) }
     ensures bytes { IsErrOf result Ending.Bytes → taken_bytes lines.new ≡ lines.new.limit }
-    ensures uncut { IsErrOf result Ending.Cut → ⊥ }
     ensures later { S.faults input.old ≤ S.faults input.new }
 {
-    match lines.line(input) {
-        Ok(Piece::Line) => match read_request(alloc, lines.text()) {
-            Ok(asked) => Ok(Some(asked)),
-            Err(Memory) => Err(Ending::Memory),
-        },
-        Ok(Piece::TooLong) => Ok(Some(Asked {
+    match lines.line(input)? {
+        Piece::Line => Ok(Some(read_request(alloc, lines.text())?)),
+        Piece::TooLong => Ok(Some(Asked {
             block: None,
             request: Err(Refusal::LineTooLong),
         })),
-        Ok(Piece::End) => Ok(None),
-        Err(stop) => Err(ending_of(stop)),
+        Piece::End => Ok(None),
     }
 }
 
@@ -83,10 +68,9 @@ fn take_block<S: Source>(lines: &mut Lines, input: &mut S, size: u64) -> Result<
     ensures bytes { IsErrOf result Ending.Bytes → taken_bytes lines.new ≡ lines.new.limit }
     ensures later { S.faults input.old ≤ S.faults input.new }
 {
-    match lines.block(input, size) {
-        Ok(BlockEnd::Whole | BlockEnd::Dropped) => Ok(()),
-        Ok(BlockEnd::Cut) => Err(Ending::Cut),
-        Err(stop) => Err(ending_of(stop)),
+    match lines.block(input, size)? {
+        BlockEnd::Whole | BlockEnd::Dropped => Ok(()),
+        BlockEnd::Cut => Err(Ending::Cut),
     }
 }
 
