@@ -1,13 +1,35 @@
-use Rattle.std.proofs.Common.{◌+◌, Some, sym, ap, ◌∙◌, subst}
+use Rattle.std.proofs.Common.{◌≡◌, List, ◌+◌, None, Some, sym, ap, ◌∙◌, subst}
 use Rattle.std.specs.List.{All}
 use Rattle.std.proofs.lemmas.Result.{err_from_is_err_and, on_ok_weaker, IfErr-weaker}
 use Rattle.svr_rows.specs.declared.change.Change.TheVariants.{Insert}
-use Rattle.svr_rows.specs.Rows.{id_of, with_row}
-use Rattle.svr_rows.specs.Changes.{new_refusal, with_rows}
+use Rattle.svr_rows.specs.Rows.{TableRows, id_of, text_bytes, with_row}
+use Rattle.svr_rows.specs.Changes.{new_refusal, refusal_of, text_refusal, with_rows}
 use Rattle.svr_rows.specs.Kept.{CountsTexts, IsTableRows}
 use Rattle.svr_rows.proofs.Sums.{insert-counted, IsTableRows-at}
 use Rattle.svr_rows.proofs.Tested.{insert_bad_row, insert_not_new, insert_texts, IsNew-from_none, refused_no_table, text_fits, text_full}
 use Rattle.svr_rows.proofs.tables.Tables.check_insert.Goals as goal
+
+new : (c : goal.After-check_text) → new_refusal c.in_ok-kept.kept.now (id_of c.args.row.now) ≡ None
+new c = ap (new_refusal c.in_ok-kept.kept.now) (sym c.id.ensures) ∙ c.in_ok-check_new.ensures.ok
+
+abbrev after : goal.After-check_text → List TableRows
+after c = with_rows c.args.self.now c.args.table (with_row c.in_ok-kept.kept.now.rows c.args.row.now)
+
+-- what all texts would have together
+total : (c : goal.After-check_text) → c.self.inside.bytes + c.text_bytes.result ≡ text_bytes (after c)
+total c =
+    let kept = c.in_ok-kept.kept.now in
+    let counted = subst (CountsTexts c.self.inside.bytes) c.self.view_is c.self.invariant.0 in
+    let lawful = IsTableRows-at c.args.self.now c.args.table kept (subst (All IsTableRows) c.self.view_is c.self.invariant.1)
+    c.in_ok-kept.ensures.ok in
+    ap (λ n. c.self.inside.bytes + n) c.text_bytes.ensures
+    ∙ insert-counted c.args.self.now c.args.table kept c.in_ok-kept.ensures.ok lawful c.args.row.now c.self.inside.bytes counted
+    (IsNew-from_none kept (id_of c.args.row.now) (new c)).free
+
+-- only the texts are left to be tested
+texts : (c : goal.After-check_text) → refusal_of c.args.self.now (Insert c.args.table c.args.row.now) ≡ text_refusal (after c)
+texts c =
+    insert_texts c.args.self.now c.args.table c.in_ok-kept.kept.now c.in_ok-kept.ensures.ok c.args.row.now c.in_ok-check_row.ensures.ok (new c)
 
 pub returns-in_err-kept-clause-refused : goal.returns-in_err-kept-clause-refused
 returns-in_err-kept-clause-refused c =
@@ -32,33 +54,9 @@ returns-in_err-check_new-clause-refused c =
 
 pub returns-clause-ok : goal.returns-clause-ok
 returns-clause-ok c =
-    let kept = c.in_ok-kept.kept.now in
-    let tables = c.args.self.now in
-    let row = c.args.row.now in
-    let new = ap (new_refusal kept) (sym c.id.ensures) ∙ c.in_ok-check_new.ensures.ok in
-    let counted = subst (CountsTexts c.self.inside.bytes) c.self.view_is c.self.invariant.0 in
-    let lawful = IsTableRows-at tables c.args.table kept
-    (subst (All IsTableRows) c.self.view_is c.self.invariant.1) c.in_ok-kept.ensures.ok in
-    let total = ap (λ n. c.self.inside.bytes + n) c.text_bytes.ensures
-    ∙ insert-counted tables c.args.table kept c.in_ok-kept.ensures.ok lawful row c.self.inside.bytes counted
-    (IsNew-from_none kept (id_of row) new).free in
-    let texts = insert_texts tables c.args.table kept c.in_ok-kept.ensures.ok row c.in_ok-check_row.ensures.ok new in
-    on_ok_weaker c.check_text.result
-    (λ few. texts ∙ text_fits (with_rows tables c.args.table (with_row kept.rows row)) _ total few) c.check_text.ensures.ok
+    on_ok_weaker c.check_text.result (λ few. texts c ∙ text_fits (after c) _ (total c) few) c.check_text.ensures.ok
 
 pub returns-clause-refused : goal.returns-clause-refused
 returns-clause-refused c =
-    let kept = c.in_ok-kept.kept.now in
-    let tables = c.args.self.now in
-    let row = c.args.row.now in
-    let new = ap (new_refusal kept) (sym c.id.ensures) ∙ c.in_ok-check_new.ensures.ok in
-    let counted = subst (CountsTexts c.self.inside.bytes) c.self.view_is c.self.invariant.0 in
-    let lawful = IsTableRows-at tables c.args.table kept
-    (subst (All IsTableRows) c.self.view_is c.self.invariant.1) c.in_ok-kept.ensures.ok in
-    let total = ap (λ n. c.self.inside.bytes + n) c.text_bytes.ensures
-    ∙ insert-counted tables c.args.table kept c.in_ok-kept.ensures.ok lawful row c.self.inside.bytes counted
-    (IsNew-from_none kept (id_of row) new).free in
-    let texts = insert_texts tables c.args.table kept c.in_ok-kept.ensures.ok row c.in_ok-check_row.ensures.ok new in
     IfErr-weaker c.check_text.result _ _
-    (λ why h. texts ∙ text_full (with_rows tables c.args.table (with_row kept.rows row)) _ total h.1
-    ∙ ap Some (sym h.0)) c.check_text.ensures.refused
+    (λ why h. texts c ∙ text_full (after c) _ (total c) h.1 ∙ ap Some (sym h.0)) c.check_text.ensures.refused
