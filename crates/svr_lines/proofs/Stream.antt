@@ -93,10 +93,10 @@ Reads-as a b old new gone gone' bytes bytes' e f p = subst (λ xs. Reads a b old
 -- ---- reading on behind a line feed that isn't there
 
 -- all that was ahead was passed over, and then more was read
-pub passes_all : (a b c : Option (List ℕ)) (old mid passed next : Reading) (n : ℕ) (gone bytes more : List ℕ) → Reads a b old mid gone bytes
+pub passes_all : {a b c : Option (List ℕ)} {old mid passed next : Reading} {n : ℕ} {gone bytes more : List ℕ} → Reads a b old mid gone bytes
     → n ≡ length mid.ahead → Passes mid passed n → Reads b c passed next [] more
     → Reads a c old next (old.ahead ++ bytes) (bytes ++ more) × (next.ahead ≡ more)
-passes_all a b c old mid passed next n gone bytes more p all over_all q =
+passes_all {a} {b} {c} {old} {mid} {passed} {next} {gone} {bytes} {more} p all over_all q =
     let h : Passes mid passed (length mid.ahead) = subst (Passes mid passed) all over_all in
     let hand = Reads-passes b mid passed (length mid.ahead) (omega arith) h in
     let both = Reads-then a c c old next next _ [] _ [] (Reads-then a b c old passed next _ [] _ more

@@ -21,8 +21,7 @@ pub returns-else-kept-clause-block : goal.returns-else-kept-clause-block
 returns-else-kept-clause-block g c =
     let inv = c.loop-missing.invariant.0 in
     let part = c.take_part.ensures in
-    let all = part_more _ _ c.args.self.now c.loop-missing.self c.take_part.new.self c.args.size c.loop-missing.missing
-    c.take_part.result _ inv.0 inv.1 inv.2 part.count part.passes part.block in (
+    let all = part_more inv.2 part.count part.passes part.block in (
       inv.0 ++ take c.take_part.result c.loop-missing.self.ahead,
       inv.1,
       all.reads,
@@ -31,8 +30,7 @@ returns-else-kept-clause-block g c =
 
 pub read_on-requires-clause-none : goal.read_on-requires-clause-none
 read_on-requires-clause-none g c =
-    part_all c.loop-missing.self c.take_part.new.self c.loop-missing.missing c.take_part.result c.take_part.ensures.count
-    c.take_part.ensures.passes (omega (arith, c.if-missing-eq0.false))
+    part_all c.loop-missing.missing c.take_part.ensures.count c.take_part.ensures.passes (omega (arith, c.if-missing-eq0.false))
 
 pub returns-in_err-read_on-clause-stop : goal.returns-in_err-read_on-clause-stop
 returns-in_err-read_on-clause-stop g c =
@@ -40,14 +38,11 @@ returns-in_err-read_on-clause-stop g c =
     let part = c.take_part.ensures in
     let more = c.in_err-read_on.ensures.fills in
     let some : 0 < c.loop-missing.missing - c.take_part.result = omega (arith, c.if-missing-eq0.false) in
-    let none = part_all c.loop-missing.self c.take_part.new.self c.loop-missing.missing c.take_part.result part.count part.passes some in
-    let all = part_read _ _ _ c.args.self.now c.take_part.new.self c.read_on.new.self c.args.size _ _ _ _ more.0
-    (part_more _ _ c.args.self.now c.loop-missing.self c.take_part.new.self c.args.size c.loop-missing.missing c.take_part.result _
-    inv.0 inv.1 inv.2 part.count part.passes part.block)
-    more.1.reads c.read_on.ensures.block in
+    let none = part_all c.loop-missing.missing part.count part.passes some in
+    let all = part_read (part_more inv.2 part.count part.passes part.block) more.1.reads c.read_on.ensures.block in
     on_err c.from_residual.result _ (
       inv.1 ++ more.0,
-      part_stops _ _ c.args.self.now c.read_on.new.self c.args.size _ _ _ _ all some
+      part_stops all some
           (more.1.reads.ahead ∙ ap (λ xs. xs ++ more.0) none ∙ more.1.count),
     )
 
@@ -56,10 +51,7 @@ returns-then-branch-eq0-clause-block g c =
     let inv = c.loop-missing.invariant.0 in
     let part = c.take_part.ensures in
     let more = c.in_ok-read_on.ensures.fills in
-    let all = part_read _ _ _ c.args.self.now c.take_part.new.self c.read_on.new.self c.args.size _ _ _ _ more.0
-    (part_more _ _ c.args.self.now c.loop-missing.self c.take_part.new.self c.args.size c.loop-missing.missing c.take_part.result _
-    inv.0 inv.1 inv.2 part.count part.passes part.block)
-    more.1.reads c.read_on.ensures.block in (
+    let all = part_read (part_more inv.2 part.count part.passes part.block) more.1.reads c.read_on.ensures.block in (
       inv.0 ++ take c.take_part.result c.loop-missing.self.ahead,
       inv.1 ++ more.0,
       all.reads,
@@ -72,10 +64,7 @@ loop-missing-preserved g c =
     let part = c.take_part.ensures in
     let more = c.in_ok-read_on.ensures.fills in
     let open_end = c.in_ok-read_on.ensures.open_end (omega (arith, c.if-branch-eq0.false)) in
-    let all = part_read _ _ _ c.args.self.now c.take_part.new.self c.read_on.new.self c.args.size _ _ _ _ more.0
-    (part_more _ _ c.args.self.now c.loop-missing.self c.take_part.new.self c.args.size c.loop-missing.missing c.take_part.result _
-    inv.0 inv.1 inv.2 part.count part.passes part.block)
-    more.1.reads c.read_on.ensures.block in (
+    let all = part_read (part_more inv.2 part.count part.passes part.block) more.1.reads c.read_on.ensures.block in (
       (inv.0 ++ take c.take_part.result c.loop-missing.self.ahead, inv.1 ++ more.0, all),
       λ is. absurd (ended_once _ open_end is),
       λ is. let again = c.in_ok-read_on.ensures.after_end (part.ended ∙ (c.loop-missing.invariant.2 is).0) in

@@ -24,8 +24,7 @@ returns-in_err-read_on-clause-stop g c =
     let old = c.args.self.now in
     let inv = c.loop-self.invariant.0 in
     let more = c.in_err-read_on.ensures.fills in
-    let on = passes_all _ _ _ old c.loop-self.self c.pass_over.new.self c.read_on.new.self _ _ _ more.0 inv.2.reads
-    c.ahead-count.ensures c.pass_over.ensures.passes more.1.reads in
+    let on = passes_all inv.2.reads c.ahead-count.ensures c.pass_over.ensures.passes more.1.reads in
     on_err c.from_residual.result _ (
       inv.1 ++ more.0,
       stops_unbroken _ _ old c.read_on.new.self _ _ on.0 (IsUnbroken-more old.ahead inv.1 more.0 inv.2.unbroken
@@ -37,8 +36,7 @@ returns-then-branch-eq0-clause-dropped g c =
     let old = c.args.self.now in
     let inv = c.loop-self.invariant.0 in
     let more = c.in_ok-read_on.ensures.fills in
-    let on = passes_all _ _ _ old c.loop-self.self c.pass_over.new.self c.read_on.new.self _ _ _ more.0 inv.2.reads
-    c.ahead-count.ensures c.pass_over.ensures.passes more.1.reads in
+    let on = passes_all inv.2.reads c.ahead-count.ensures c.pass_over.ensures.passes more.1.reads in
     let line = old.ahead ++ inv.1 in
     let longer : length old.ahead ≤ length line = omega (arith, length-append old.ahead inv.1) in (
       line,
@@ -57,8 +55,7 @@ returns-in-Some-clause-dropped g c =
     let more = c.in_ok-read_on.ensures.fills in
     let next = c.read_on.new.self in
     let found = c.in-Some.ensures.found in
-    let on = passes_all _ _ _ old c.loop-self.self c.pass_over.new.self next _ _ _ more.0 inv.2.reads c.ahead-count.ensures
-    c.pass_over.ensures.passes more.1.reads in
+    let on = passes_all inv.2.reads c.ahead-count.ensures c.pass_over.ensures.passes more.1.reads in
     let began = old.ahead ++ inv.1 in
     let part = take c.in-Some.at next.ahead in (
       began ++ part,
@@ -81,8 +78,7 @@ loop-self-preserved g c =
     let inv = c.loop-self.invariant.0 in
     let more = c.in_ok-read_on.ensures.fills in
     let next = c.read_on.new.self in
-    let on = passes_all _ _ _ old c.loop-self.self c.pass_over.new.self next _ _ _ more.0 inv.2.reads c.ahead-count.ensures
-    c.pass_over.ensures.passes more.1.reads in
+    let on = passes_all inv.2.reads c.ahead-count.ensures c.pass_over.ensures.passes more.1.reads in
     let unbroken : IsUnbroken more.0 = subst IsUnbroken on.1 (IsUnbroken-all next.ahead c.in_default.ensures.none) in (
       (
         old.ahead ++ inv.1,

@@ -27,11 +27,8 @@ returns-then-not-skips-clause-piece g c =
 
 pub returns-then-not-skips-clause-next : goal.returns-then-not-skips-clause-next
 returns-then-not-skips-clause-next g c =
-    let inv = c.loop-self.invariant.0 in
-    let next = c.in_ok-piece.ensures.line in
-    let both = takes_piece c.in_ok-piece.piece _ _ _ c.args.self.now c.loop-self.self c.next_line.new.self inv.0 inv.1 next.0 next.1 inv.2
-    (sym c.has_ended.ensures.ended ∙ c.loop-self-test.true) next.2 next.3 (sym c.skips.ensures ∙ c.if-not-skips.true) in
-    next_from_takes c.in_ok-piece.piece _ _ c.args.self.now c.next_line.new.self _ _ both.0 both.1
+    let took = returns-then-not-skips-clause-piece g c in
+    next_from_takes c.in_ok-piece.piece _ _ c.args.self.now c.next_line.new.self took.0 took.1 took.2 took.3
 
 pub loop-self-preserved : goal.loop-self-preserved
 loop-self-preserved g c =
