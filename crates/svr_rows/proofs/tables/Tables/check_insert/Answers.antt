@@ -18,18 +18,16 @@ after c = with_rows c.args.self.now c.args.table (with_row c.in_ok-kept.kept.now
 -- what all texts would have together
 total : (c : goal.After-check_text) → c.self.inside.bytes + c.text_bytes.result ≡ text_bytes (after c)
 total c =
-    let kept = c.in_ok-kept.kept.now in
     let counted = subst (CountsTexts c.self.inside.bytes) c.self.view_is c.self.invariant.0 in
-    let lawful = IsTableRows-at c.args.self.now c.args.table kept (subst (All IsTableRows) c.self.view_is c.self.invariant.1)
-    c.in_ok-kept.ensures.ok in
+    let lawful = IsTableRows-at _ _ _ (subst (All IsTableRows) c.self.view_is c.self.invariant.1) c.in_ok-kept.ensures.ok in
     ap (λ n. c.self.inside.bytes + n) c.text_bytes.ensures
-    ∙ insert-counted c.args.self.now c.args.table kept c.in_ok-kept.ensures.ok lawful c.args.row.now c.self.inside.bytes counted
-    (IsNew-from_none kept (id_of c.args.row.now) (new c)).free
+    ∙ insert-counted _ _ _ c.in_ok-kept.ensures.ok lawful c.args.row.now _ counted
+    (IsNew-from_none c.in_ok-kept.kept.now (id_of c.args.row.now) (new c)).free
 
 -- only the texts are left to be tested
 texts : (c : goal.After-check_text) → refusal_of c.args.self.now (Insert c.args.table c.args.row.now) ≡ text_refusal (after c)
 texts c =
-    insert_texts c.args.self.now c.args.table c.in_ok-kept.kept.now c.in_ok-kept.ensures.ok c.args.row.now c.in_ok-check_row.ensures.ok (new c)
+    insert_texts _ _ _ c.in_ok-kept.ensures.ok c.args.row.now c.in_ok-check_row.ensures.ok (new c)
 
 pub returns-in_err-kept-clause-refused : goal.returns-in_err-kept-clause-refused
 returns-in_err-kept-clause-refused c =

@@ -20,8 +20,7 @@ found c =
 
 lawful : (c : After-self) → IsTableRows c.in_ok-kept.kept.now
 lawful c =
-    IsTableRows-at c.args.self.now c.args.table c.in_ok-kept.kept.now (subst (All IsTableRows) c.self.view_is c.self.invariant.1)
-    c.in_ok-kept.ensures.ok
+    IsTableRows-at _ _ _ (subst (All IsTableRows) c.self.view_is c.self.invariant.1) c.in_ok-kept.ensures.ok
 
 counted : (c : After-self) → CountsTexts c.self.inside.bytes c.args.self.now
 counted c = subst (CountsTexts c.self.inside.bytes) c.self.view_is c.self.invariant.0
@@ -32,16 +31,13 @@ after c = with_rows c.args.self.now c.args.table (with_row c.in_ok-kept.kept.now
 -- what all texts would have together
 total : (c : After-self) → c.self.inside.bytes - row_bytes c.in_ok-before.before.now + row_bytes c.args.row.now ≡ text_bytes (after c)
 total c =
-    update-counted c.args.self.now c.args.table c.in_ok-kept.kept.now c.in_ok-kept.ensures.ok (lawful c) c.args.row.now
-    c.in_ok-before.before.now c.self.inside.bytes (counted c) (found c)
+    update-counted _ _ _ c.in_ok-kept.ensures.ok (lawful c) c.args.row.now _ _ (counted c) (found c)
 
 -- only the texts are left to be tested
 texts : (c : After-self) → refusal_of c.args.self.now (Update c.args.table c.args.row.now) ≡ text_refusal (after c)
 texts c =
-    let kept = c.in_ok-kept.kept.now in
-    let row = c.args.row.now in
-    update_texts c.args.self.now c.args.table kept c.in_ok-kept.ensures.ok row c.in_ok-check_row.ensures.ok
-    (sym (is_some-row_at kept.rows (id_of row)) ∙ ap is_some (found c))
+    update_texts _ _ _ c.in_ok-kept.ensures.ok c.args.row.now c.in_ok-check_row.ensures.ok
+    (sym (is_some-row_at c.in_ok-kept.kept.now.rows (id_of c.args.row.now)) ∙ ap is_some (found c))
 
 pub returns-in_err-kept-clause-refused : goal.returns-in_err-kept-clause-refused
 returns-in_err-kept-clause-refused c =
@@ -75,8 +71,7 @@ text_bytes-requires c =
 pub overflow_sub-self-inside : goal.overflow_sub-self-inside
 overflow_sub-self-inside c =
     let k = (goal.at.overflow_sub-self-inside c).After-self in
-    let few = bytes_at-counted c.args.self.now c.args.table c.in_ok-kept.kept.now c.in_ok-kept.ensures.ok (lawful k)
-    (id_of c.args.row.now) c.self.inside.bytes (counted k) in
+    let few = bytes_at-counted _ _ _ c.in_ok-kept.ensures.ok (lawful k) (id_of c.args.row.now) _ (counted k) in
     omega (arith, few, ap bytes_at (found k), c.text_bytes.ensures)
 
 pub returns-clause-ok : goal.returns-clause-ok
@@ -89,4 +84,5 @@ pub returns-clause-refused : goal.returns-clause-refused
 returns-clause-refused c =
     let k = (goal.at.returns-clause-refused c).After-self in
     let all = ap₂ (λ m n. c.self.inside.bytes - m + n) c.text_bytes.ensures c.text_bytes-2.ensures ∙ total k in
-    IfErr-weaker c.check_text.result _ _ (λ why h. texts k ∙ text_full (after k) _ all h.1 ∙ ap Some (sym h.0)) c.check_text.ensures.refused
+    IfErr-weaker c.check_text.result _ _
+    (λ why h. texts k ∙ text_full (after k) _ all h.1 ∙ ap Some (sym h.0)) c.check_text.ensures.refused

@@ -18,27 +18,29 @@ module _ {items tables : List TableRows} {place : ℕ} {row : Row} (is : items �
   stands = ap (λ ts. slice_get ts place) is ∙ can.there
 
   lawful : All IsTableRows items → IsTableRows can.table
-  lawful all = IsTableRows-at items place can.table all stands
+  lawful all = IsTableRows-at _ _ _ all stands
 
-  same : {there : TableRows} → there ≡ get_or items place there → there ≡ can.table
-  same {there} read = read ∙ get_or_from_slice_get items place can.table there stands
+  same_table : {there : TableRows} → there ≡ get_or items place there → there ≡ can.table
+  same_table {there} read = read ∙ get_or_from_slice_get items place can.table there stands
 
   short : All IsTableRows items → row_bytes row ≤ 524288
   short all = row_bytes-lawful can.table.kinds row (lawful all).columns (IsLawfulRow-from_none can.table row can.fits)
 
 -- the row that stood there
 before : (c : In_ok-before) → c.in_ok-before.before ≡ row_at c.requires.table.rows (id_of c.args.row)
-before c = c.in_ok-before.ensures.before ∙ ap (λ t. row_at t.rows (id_of c.args.row)) (same c.self.view_is c.requires c.index_mut.ensures.value)
+before c =
+    c.in_ok-before.ensures.before
+    ∙ ap (λ t. row_at t.rows (id_of c.args.row)) (same_table c.self.view_is c.requires c.index_mut.ensures.value)
 
 -- the tables that are kept now
 now : (c : In_ok-before)
     → set c.self.inside.tables.items c.args.table c.put.new.self
     ≡ with_rows c.self.inside.tables.items c.args.table (with_row c.requires.table.rows c.args.row)
 now c =
-    let there = c.requires.table in
+    let same = same_table c.self.view_is c.requires c.index_mut.ensures.value in
     ap (set c.self.inside.tables.items c.args.table)
-    (c.in_ok-before.ensures.changed ∙ ap (λ t. with_rows_of t (with_row t.rows c.args.row)) (same c.self.view_is c.requires c.index_mut.ensures.value))
-    ∙ set-with_rows c.self.inside.tables.items c.args.table there (with_row there.rows c.args.row) (stands c.self.view_is c.requires)
+    (c.in_ok-before.ensures.changed ∙ ap (λ t. with_rows_of t (with_row t.rows c.args.row)) same)
+    ∙ set-with_rows _ _ _ (with_row c.requires.table.rows c.args.row) (stands c.self.view_is c.requires)
 
 pub text_bytes-requires : goal.text_bytes-requires
 text_bytes-requires c = omega (arith, short c.self.view_is c.requires c.self.invariant.1)
@@ -53,11 +55,13 @@ index_mut-requires c =
     omega (arith, slice_get_within c.self.inside.tables.items c.args.table c.requires.table e, c.self.inside.tables.ok.0)
 
 pub put-requires-clause-fits : goal.put-requires-clause-fits
-put-requires-clause-fits c = ap (λ t. row_refusal t c.args.row) (same c.self.view_is c.requires c.index_mut.ensures.value) ∙ c.requires.fits
+put-requires-clause-fits c =
+    ap (λ t. row_refusal t c.args.row) (same_table c.self.view_is c.requires c.index_mut.ensures.value) ∙ c.requires.fits
 
 pub put-requires-clause-room : goal.put-requires-clause-room
 put-requires-clause-room c =
-    subst (λ (t : TableRows). has_row t.rows (id_of c.args.row) ≡ false → length t.rows < 262144) (sym (same c.self.view_is c.requires c.index_mut.ensures.value)) c.requires.room
+    let same = same_table c.self.view_is c.requires c.index_mut.ensures.value in
+    subst (λ (t : TableRows). has_row t.rows (id_of c.args.row) ≡ false → length t.rows < 262144) (sym same) c.requires.room
 
 pub bytes_of-requires : goal.bytes_of-requires
 bytes_of-requires c =
@@ -66,22 +70,20 @@ bytes_of-requires c =
 
 pub overflow_sub-self : goal.overflow_sub-self
 overflow_sub-self c =
-    let few = bytes_at-counted c.self.inside.tables.items c.args.table c.requires.table (stands c.self.view_is c.requires)
-    (lawful c.self.view_is c.requires c.self.invariant.1) (id_of c.args.row) c.self.inside.bytes c.self.invariant.0 in
+    let few = bytes_at-counted _ _ _ (stands c.self.view_is c.requires) (lawful c.self.view_is c.requires c.self.invariant.1)
+    (id_of c.args.row) c.self.inside.bytes c.self.invariant.0 in
     omega (arith, few, c.bytes_of.ensures, ap bytes_at (before (goal.at.overflow_sub-self c).In_ok-before))
 
 pub invariant_of-self-2 : goal.invariant_of-self-2
 invariant_of-self-2 c =
-    let items = c.self.inside.tables.items in
-    let there = c.requires.table in
-    let few = subst (λ ts. text_bytes (with_rows ts c.args.table (with_row there.rows c.args.row)) ≤ 67108864)
+    let few = subst (λ ts. text_bytes (with_rows ts c.args.table (with_row c.requires.table.rows c.args.row)) ≤ 67108864)
     (sym c.self.view_is) c.requires.texts in
-    let counts = CountsTexts-put items c.args.table there (stands c.self.view_is c.requires)
-    (lawful c.self.view_is c.requires c.self.invariant.1) c.args.row c.self.inside.bytes c.self.invariant.0 few in
+    let counts = CountsTexts-put _ _ _ (stands c.self.view_is c.requires) (lawful c.self.view_is c.requires c.self.invariant.1)
+    c.args.row c.self.inside.bytes c.self.invariant.0 few in
     let k = (goal.at.invariant_of-self-2 c).In_ok-before in
     let gone = c.bytes_of.ensures ∙ ap bytes_at (before k) in (
       rw (c.text_bytes.ensures, gone, now k) counts,
-      All-set IsTableRows items c.args.table c.put.new.self c.in_ok-before.ensures.lawful
+      All-set IsTableRows c.self.inside.tables.items c.args.table c.put.new.self c.in_ok-before.ensures.lawful
           c.self.invariant.1,
     )
 

@@ -6,7 +6,7 @@ use Rattle.svr_rows.specs.Changes.{with_rows}
 use Rattle.svr_rows.specs.Kept.{bytes_at, IsTableRows}
 use Rattle.svr_rows.proofs.Sums.{bytes_at-counted, bytes_at-few, set-with_rows, CountsTexts-remove, IsTableRows-at}
 use Rattle.svr_rows.proofs.tables.Tables.remove.Goals as goal
-use Rattle.svr_rows.proofs.tables.Tables.remove.Goals.{After-remove-before, After-bytes_of}
+use Rattle.svr_rows.proofs.tables.Tables.remove.Goals.{After-remove-before}
 
 -- the table in its place
 stands : (c : After-remove-before) → slice_get c.self.inside.tables.items c.args.table ≡ Some c.index_mut.result.now
@@ -16,21 +16,15 @@ stands c =
     slice_get_read items (length items) c.args.table c.index_mut.result.now refl within c.index_mut.ensures.value
 
 lawful : (c : After-remove-before) → IsTableRows c.index_mut.result.now
-lawful c = IsTableRows-at c.self.inside.tables.items c.args.table c.index_mut.result.now c.self.invariant.1 (stands c)
+lawful c = IsTableRows-at _ _ _ c.self.invariant.1 (stands c)
 
 -- the tables that are kept now
 now : (c : After-remove-before)
     → set c.self.inside.tables.items c.args.table c.remove-before.new.self
     ≡ with_rows c.self.inside.tables.items c.args.table (without_row c.index_mut.result.now.rows c.args.id)
 now c =
-    let items = c.self.inside.tables.items in
-    let there = c.index_mut.result.now in
-    ap (set items c.args.table) c.remove-before.ensures.changed
-    ∙ set-with_rows items c.args.table there (without_row there.rows c.args.id) (stands c)
-
--- how many bytes the row had
-gone : (c : After-bytes_of) → c.bytes_of.result ≡ bytes_at (row_at c.index_mut.result.now.rows c.args.id)
-gone c = c.bytes_of.ensures ∙ ap bytes_at c.remove-before.ensures.before
+    ap (set c.self.inside.tables.items c.args.table) c.remove-before.ensures.changed
+    ∙ set-with_rows _ _ _ (without_row c.index_mut.result.now.rows c.args.id) (stands c)
 
 pub bytes_of-requires : goal.bytes_of-requires
 bytes_of-requires c =
@@ -40,18 +34,15 @@ bytes_of-requires c =
 pub overflow_sub-self : goal.overflow_sub-self
 overflow_sub-self c =
     let k = (goal.at.overflow_sub-self c).After-remove-before in
-    let there = c.index_mut.result.now in
-    rw (gone c)
-    (bytes_at-counted c.self.inside.tables.items c.args.table there (stands k) (lawful k) c.args.id c.self.inside.bytes c.self.invariant.0)
+    rw (c.bytes_of.ensures ∙ ap bytes_at c.remove-before.ensures.before)
+    (bytes_at-counted _ _ _ (stands k) (lawful k) c.args.id c.self.inside.bytes c.self.invariant.0)
 
 pub invariant_of-self : goal.invariant_of-self
 invariant_of-self c =
     let k = (goal.at.invariant_of-self c).After-remove-before in
-    let items = c.self.inside.tables.items in
-    let there = c.index_mut.result.now in
-    let counts = CountsTexts-remove items c.args.table there (stands k) (lawful k) c.args.id c.self.inside.bytes c.self.invariant.0 in (
-      rw (gone (goal.at.invariant_of-self c).After-bytes_of, now k) counts,
-      All-set IsTableRows items c.args.table c.remove-before.new.self c.remove-before.ensures.lawful
+    let gone = c.bytes_of.ensures ∙ ap bytes_at c.remove-before.ensures.before in (
+      rw (gone, now k) (CountsTexts-remove _ _ _ (stands k) (lawful k) c.args.id c.self.inside.bytes c.self.invariant.0),
+      All-set IsTableRows c.self.inside.tables.items c.args.table c.remove-before.new.self c.remove-before.ensures.lawful
           c.self.invariant.1,
     )
 
