@@ -15,14 +15,14 @@ use Rattle.svr_rows.specs.Kept.{IsAscending, IsTableRows, by_id}
 use Rattle.svr_rows.specs.Rows.{TableRows, has_row, id_of, row_at, rows_in, with_row, without_row}
 use Rattle.svr_rows.proofs.ById.{insert_entry-by_id, is_some-row_at, lookup-by_id, remove_entry-by_id}
 use Rattle.svr_rows.proofs.Laws.{rows_in-with_rows, rows_in-with_rows_apart}
-use Rattle.svr_rows.proofs.Tested.{CanPut-insert, CanPut-update, place-delete}
+use Rattle.svr_rows.proofs.Tested.{CanPut-insert, CanPut-update, has_row-insert, has_row-update, place-delete}
 use Rattle.svr_schema.specs.declared.schema.Schema.{Schema}
 use Rattle.svr_core.specs.declared.document.Document.{Document}
 use Rattle.svr_core.specs.declared.effect.Effect.{Effect}
 use Rattle.svr_core.specs.declared.effect.Effect.TheVariants as effect
 use Rattle.svr_core.specs.Documents.{IsCatalog, Suits, after_effect, document_of, documents_by_id, effect_of}
 use Rattle.svr_core.specs.Steps.{without_id}
-use Rattle.svr_core.proofs.Accepted.{IsAscending-rows_in, free-insert, place-put, taken-update}
+use Rattle.svr_core.proofs.Accepted.{IsAscending-rows_in, place-put}
 use Rattle.svr_core.proofs.Mapped.{insert_entry-map_values, map_values, remove_entry-map_values}
 
 documents_by_id-map : (s : Schema) (rows : List Row) → documents_by_id s rows ≡ map_values (document_of s) (by_id rows)
@@ -84,14 +84,14 @@ module _ (s : Schema) (tables : List TableRows) (entries : List (ℕ × Document
       → Suits (cond b (effect.Add (document_of s row)) effect.Nothing) entries
   suits_insert row place false e h = tt
   suits_insert row place true e h =
-      let free = ap (λ at. has_row (rows_in tables at) (id_of row)) (sym (same_place place s.text_table e)) ∙ free-insert tables place row h in
+      let free = ap (λ at. has_row (rows_in tables at) (id_of row)) (sym (same_place place s.text_table e)) ∙ has_row-insert tables place row h in
       found (id_of row) ∙ none_if s (row_at (rows_in tables s.text_table) (id_of row)) (is_some-row_at (rows_in tables s.text_table) (id_of row) ∙ free)
 
   suits_update : (row : Row) (place : ℕ) (b : Bool) → (place == s.text_table) ≡ b → refusal_of tables (Update place row) ≡ None
       → Suits (cond b (effect.Replace (document_of s row)) effect.Nothing) entries
   suits_update row place false e h = tt
   suits_update row place true e h =
-      let taken = ap (λ at. has_row (rows_in tables at) (id_of row)) (sym (same_place place s.text_table e)) ∙ taken-update tables place row h in
+      let taken = ap (λ at. has_row (rows_in tables at) (id_of row)) (sym (same_place place s.text_table e)) ∙ has_row-update tables place row h in
       subst IsSome (sym (found (id_of row)))
       (some_if s (row_at (rows_in tables s.text_table) (id_of row)) (is_some-row_at (rows_in tables s.text_table) (id_of row) ∙ taken))
 

@@ -73,14 +73,6 @@ unfolding inserted
 inserted-more tables place [] row = refl
 inserted-more tables place (r ∷ rows) row = inserted-more (changed tables (Insert place r)) place rows row
 
-pub kinds_in-inserted : (tables : List TableRows) (place : ℕ) (rows : List Row) (table : ℕ)
-    → kinds_in (inserted tables place rows) table ≡ kinds_in tables table
-unfolding inserted
-kinds_in-inserted tables place [] table = refl
-kinds_in-inserted tables place (row ∷ rows) table =
-    kinds_in-inserted (changed tables (Insert place row)) place rows table
-    ∙ kinds_in-with_rows tables place (with_row (rows_in tables place) row) table
-
 pub not_numbered : (n : ℕ) (first : Option RowRefusal) (later : Option (ℕ × RowRefusal)) → numbered n first later ≡ None
     → (first ≡ None) × (later ≡ None)
 not_numbered n None later h = (refl, h)

@@ -170,6 +170,25 @@ pub has_row-insert : (tables : List TableRows) (place : ℕ) (row : Row) → ref
 unfolding refusal_of
 has_row-insert tables place row h = new_if_inserted tables place row (slice_get tables place) h
 
+not_false : (b : Bool) → not b ≡ false → b ≡ true
+not_false true h = refl
+not_false false h = absurd (let e : true ≡ false = h in cc)
+
+there_if_updated : (tables : List TableRows) (place : ℕ) (row : Row) (o : Option TableRows)
+    → refusal_at o tables (Update place row) ≡ None → has_row (rows_at o) (id_of row) ≡ true
+there_if_updated tables place row None h = absurd (let k : Some NoTable ≡ None = h in cc)
+there_if_updated tables place row (Some there) h =
+    let missing = not (has_row there.rows (id_of row)) in
+    let texts = text_refusal (changed tables (Update place row)) in
+    let a = neither (row_refusal there row) (or_then (refuse_if missing NoRow) texts) h in
+    not_false (has_row there.rows (id_of row)) (not_refused missing NoRow (neither (refuse_if missing NoRow) texts a.1).0)
+
+-- a row has the id of one whose update isn't refused
+pub has_row-update : (tables : List TableRows) (place : ℕ) (row : Row) → refusal_of tables (Update place row) ≡ None
+    → has_row (rows_in tables place) (id_of row) ≡ true
+unfolding refusal_of
+has_row-update tables place row h = there_if_updated tables place row (slice_get tables place) h
+
 pub CanPut-insert : (tables : List TableRows) (place : ℕ) (row : Row) → refusal_of tables (Insert place row) ≡ None
     → CanPut tables place row
 unfolding refusal_of
