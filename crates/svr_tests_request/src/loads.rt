@@ -4,7 +4,10 @@ use std::test::Fail;
 /// Lines whose `op` is `load`, what they ask for, and how many bytes of a block follow them: those that they say in a whole
 /// number, whatever else is wrong with them.
 const LOADS: &[(&str, &str)] = &[
-    (r#"{"op":"load","table":"d","bytes":27}"#, "load d false +27"),
+    (
+        r#"{"op":"load","table":"d","bytes":27}"#,
+        "load d false +27",
+    ),
     (
         r#"{"op":"load","table":"","bytes":0,"header":false}"#,
         "load  false +0",
@@ -40,7 +43,10 @@ const LOADS: &[(&str, &str)] = &[
         r#"{"op":"load","table":"d","bytes":5,"header":"true"}"#,
         "BadShape +5",
     ),
-    (r#"{"op":"load","table":"d","bytes":5,"rows":1}"#, "BadShape +5"),
+    (
+        r#"{"op":"load","table":"d","bytes":5,"rows":1}"#,
+        "BadShape +5",
+    ),
     (
         r#"{"op":"load","table":"d","bytes":5,"bytes":6}"#,
         "load d false +6",

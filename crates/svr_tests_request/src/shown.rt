@@ -42,9 +42,7 @@ fn shown_request(alloc: Global, request: &Request) -> Result<String, AllocError>
         Request::Insert { table, row } => shown_change(alloc, "insert", table, row),
         Request::Update { table, row } => shown_change(alloc, "update", table, row),
         Request::Delete { table, id } => format!(in alloc; "delete {} {id}", table.as_str()),
-        Request::Load { table, header } => {
-            format!(in alloc; "load {} {header}", table.as_str())
-        }
+        Request::Load { table, header } => format!(in alloc; "load {} {header}", table.as_str()),
         Request::Search { query, mode, k } => match mode {
             Mode::All => format!(in alloc; "search all {k} {}", query.as_str()),
             Mode::Any => format!(in alloc; "search any {k} {}", query.as_str()),

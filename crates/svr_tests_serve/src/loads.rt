@@ -236,8 +236,7 @@ fn a_load_fills_a_table(rt: HostRuntime) -> Result<(), Fail> {
     let most = ids(rt.alloc(), 1_723_891, 0, 262_143)?;
     let two = ids(rt.alloc(), 14, 262_143, 262_145)?;
     let input = format!(in rt.alloc(); "{PAD}\n{}{}{}", most.as_str(), two.as_str(), INSERT_PAD)?;
-    let wanted =
-        "{\"ok\":1}\n{\"ok\":2}\n{\"error\":\"table-full\",\"record\":2}\n{\"ok\":3}\n";
+    let wanted = "{\"ok\":1}\n{\"ok\":2}\n{\"error\":\"table-full\",\"record\":2}\n{\"ok\":3}\n";
     assert_served(&rt, input.as_bytes(), 100_000, wanted)?;
     Ok(())
 }
@@ -274,7 +273,8 @@ fn a_load_fills_all_texts(rt: HostRuntime) -> Result<(), Fail> {
     input.push_str(texts(rt.alloc(), 1016, 9, 65_536)?.as_str())?;
     input.push_str(texts(rt.alloc(), 1016, 8, 65_536)?.as_str())?;
     input.push_str(texts(rt.alloc(), 1024, 1, 0)?.as_str())?;
-    let wanted = "{\"ok\":1}\n{\"ok\":2}\n{\"ok\":3}\n{\"ok\":4}\n{\"ok\":5}\n{\"ok\":6}\n{\"ok\":7}\n{\"ok\":8}\n{\"ok\":9}\n{\"error\":\"text-too-long\",\"record\":1}\n{\"error\":\"text-full\",\"record\":9}\n{\"ok\":10}\n{\"ok\":11}\n";
+    let wanted =
+        "{\"ok\":1}\n{\"ok\":2}\n{\"ok\":3}\n{\"ok\":4}\n{\"ok\":5}\n{\"ok\":6}\n{\"ok\":7}\n{\"ok\":8}\n{\"ok\":9}\n{\"error\":\"text-too-long\",\"record\":1}\n{\"error\":\"text-full\",\"record\":9}\n{\"ok\":10}\n{\"ok\":11}\n";
     assert_served(&rt, input.as_bytes(), 1_000_000, wanted)?;
     Ok(())
 }
@@ -282,8 +282,9 @@ fn a_load_fills_all_texts(rt: HostRuntime) -> Result<(), Fail> {
 /// A block of more than 8,388,608 bytes is read and dropped.
 #[test]
 fn a_longer_block_is_dropped(rt: HostRuntime) -> Result<(), Fail> {
-    let mut input =
-        format!(in rt.alloc(); "{DOCS}\n{{\"op\":\"load\",\"table\":\"docs\",\"bytes\":8388609}}\n")?;
+    let mut input = format!(in rt.alloc();
+        "{DOCS}\n{{\"op\":\"load\",\"table\":\"docs\",\"bytes\":8388609}}\n"
+    )?;
     for _ in 0..8_388_609 {
         input.push('x')?;
     }
@@ -291,7 +292,8 @@ fn a_longer_block_is_dropped(rt: HostRuntime) -> Result<(), Fail> {
         input.push('x')?;
     }
     input.push_str("\n{\"op\":\"search\",\"query\":\"x\",\"mode\":\"all\",\"k\":1}\n")?;
-    let wanted = "{\"ok\":1}\n{\"error\":\"bad-shape\"}\n{\"error\":\"line-too-long\"}\n{\"hits\":[],\"groups\":0}\n";
+    let wanted =
+        "{\"ok\":1}\n{\"error\":\"bad-shape\"}\n{\"error\":\"line-too-long\"}\n{\"hits\":[],\"groups\":0}\n";
     assert_served(&rt, input.as_bytes(), 1_000_000, wanted)?;
     Ok(())
 }
