@@ -1,5 +1,5 @@
 -- Inserts of many rows: what is remembered of those that were accepted, and how the next row is tested beside them.
-use Rattle.std.specs.Prelude.{◌≡◌, ◌≤◌, ℕ, ◌+◌, true, false, cond, ◌||◌, List, length, slice_get, nat_lt, nat_le, Option, None, Some}
+use Rattle.std.specs.Prelude.{◌≡◌, ◌≤◌, ℕ, ◌+◌, true, false, if◌then◌else◌, ◌||◌, List, length, slice_get, nat_lt, nat_le, Option, None, Some}
 use Rattle.std.specs.BTreeSet.{btree_set_len, contains}
 use Rattle.std.specs.BTreeMap.{is_at}
 use Rattle.std.specs.Ordering.{nat_cmp}
@@ -28,7 +28,7 @@ refusal_beside tables place ahead row = refusal_beside_at (slice_get tables plac
 
 -- the row is one more of those ahead
 pub record Adds (old : Ahead) (row : Row) (new : Ahead) : Type 0 where
-  pub has : (id : ℕ) → contains nat_cmp new.ids id ≡ cond (is_at (nat_cmp (id_of row)) id) true (contains nat_cmp old.ids id)
+  pub has : (id : ℕ) → contains nat_cmp new.ids id ≡ (if is_at (nat_cmp (id_of row)) id then true else contains nat_cmp old.ids id)
   pub count : contains nat_cmp old.ids (id_of row) ≡ false → btree_set_len new.ids ≡ btree_set_len old.ids + 1
   pub bytes : new.bytes ≡ old.bytes + row_bytes row
 
