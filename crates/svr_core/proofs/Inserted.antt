@@ -8,7 +8,8 @@ use Rattle.std.specs.Ordering.{match_ordering}
 same_key : (k : ℕ) → is_at (nat_cmp k) k ≡ true
 same_key k = ap is_eq (sym (nat_cmp_is k k Equal refl))
 
-step : {X : Type 0} (o : Ordering) (e : ℕ × X) (es : List (ℕ × X)) (k : ℕ) (v : X) → nat_cmp k e.0 ≡ o → cond (is_eq o) (Some e.1) (lookup (is_at (nat_cmp k)) es) ≡ None
+step : {X : Type 0} (o : Ordering) (e : ℕ × X) (es : List (ℕ × X)) (k : ℕ) (v : X) → nat_cmp k e.0 ≡ o
+    → cond (is_eq o) (Some e.1) (lookup (is_at (nat_cmp k)) es) ≡ None
     → (lookup (is_at (nat_cmp k)) es ≡ None → remove_entry (is_at (nat_cmp k)) (insert_entry nat_cmp es k v) ≡ es)
     → remove_entry (is_at (nat_cmp k)) (match_ordering o ((k, v) ∷ e ∷ es) ((e.0, v) ∷ es) (e ∷ insert_entry nat_cmp es k v)) ≡ e ∷ es
 step Less e es k v is h rest = ap (λ b. cond b (e ∷ es) ((k, v) ∷ remove_entry (is_at (nat_cmp k)) (e ∷ es))) (same_key k)

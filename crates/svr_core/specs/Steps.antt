@@ -27,13 +27,13 @@ query_refusal query.NoTerms = refusal.NoTerms
 query_refusal query.TooManyTerms = refusal.TooManyTerms
 query_refusal query.Memory = refusal.Memory
 
-abbrev pub load_refusal : LoadRefusal → Refusal
-load_refusal (load.At n why) = row_refusal (Some n) why
-load_refusal load.Memory = refusal.Memory
+abbrev pub refusal_of_load : LoadRefusal → Refusal
+refusal_of_load (load.At n why) = row_refusal (Some n) why
+refusal_of_load load.Memory = refusal.Memory
 
-abbrev pub block_refusal : CsvRefusal → Refusal
-block_refusal (csv.Number n) = refusal.BadCsv n
-block_refusal csv.Memory = refusal.Memory
+abbrev pub refusal_of_block : CsvRefusal → Refusal
+refusal_of_block (csv.Number n) = refusal.BadCsv n
+refusal_of_block csv.Memory = refusal.Memory
 
 abbrev pub schema_refusal : SchemaError → Refusal
 schema_refusal (error.Rule n) = refusal.BadSchema n

@@ -1,6 +1,6 @@
 ghost use Rattle.std.specs.Prelude.{◌≡◌};
 ghost use Rattle.svr_core.specs.Outcomes.{row_refusal};
-ghost use Rattle.svr_core.specs.Steps.{block_refusal, load_refusal, query_refusal, schema_refusal};
+ghost use Rattle.svr_core.specs.Steps.{query_refusal, refusal_of_block, refusal_of_load, schema_refusal};
 
 use svr_csvload::CsvRefusal;
 use svr_request::Refusal;
@@ -24,7 +24,7 @@ pub fn refused_row(number: Option<u32>, why: RowRefusal) -> Refusal
 }
 
 pub fn refused_load(why: LoadRefusal) -> Refusal
-    ensures { result ≡ load_refusal why }
+    ensures { result ≡ refusal_of_load why }
 {
     match why {
         LoadRefusal::At { number, why } => refused_row(Some(number), why),
@@ -33,7 +33,7 @@ pub fn refused_load(why: LoadRefusal) -> Refusal
 }
 
 pub fn refused_block(why: CsvRefusal) -> Refusal
-    ensures { result ≡ block_refusal why }
+    ensures { result ≡ refusal_of_block why }
 {
     match why {
         CsvRefusal::Number(number) => Refusal::BadCsv { number },

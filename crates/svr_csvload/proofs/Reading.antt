@@ -1,5 +1,6 @@
 -- One read takes the first of the records ahead.
-use Rattle.std.proofs.Common.{◌≡◌, ◌+◌, ℕ, Bool, true, false, Bor, List, [], ◌∷◌, length, Option, Some, None, MatchBool, refl, sym, ap, ◌∙◌, inl, arith, add-one}
+use Rattle.std.proofs.Common.{◌≡◌, ◌+◌, ℕ, Bool, true, false, Bor, List, [], ◌∷◌, length}
+use Rattle.std.proofs.Common.{Option, Some, None, MatchBool, refl, sym, ap, ◌∙◌, inl, arith, add-one}
 use Rattle.csv.specs.Machine.{Read, next_record}
 use Rattle.csv.specs.Reading.{ReadRecord, Reached, default_config, records_from, records_next}
 use Rattle.csv.specs.declared.reader.Reader.{Reader}
@@ -11,7 +12,8 @@ abbrev left_of : Bor (List ℕ) → Option (List ℕ)
 left_of s = Some s.now
 
 -- the records of these bytes, by what the next read gives
-ahead_by : (r : Reader (Bor (List ℕ))) (h : IsBetween r) → ahead r ≡ records_next (records_from default_config (length h.bytes)) (next_record default_config r.state [] [] h.bytes)
+ahead_by : (r : Reader (Bor (List ℕ))) (h : IsBetween r)
+    → ahead r ≡ records_next (records_from default_config (length h.bytes)) (next_record default_config r.state [] [] h.bytes)
 unfolding ahead records_from
 ahead_by r h = rw (h.known, add-one) refl
 

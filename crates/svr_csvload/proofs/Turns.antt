@@ -1,5 +1,6 @@
 -- What each record adds to the rows of those before it.
-use Rattle.std.proofs.Common.{ℤ, map, subst, ◌≡◌, ◌+◌, ℕ, Bool, true, false, cond, List, [], ◌∷◌, ◌++◌, length, filter_map, Option, Some, None, option_map, Result, Ok, Err, append_assoc, length-append, refl, sym, ap, arith}
+use Rattle.std.proofs.Common.{ℤ, map, subst, ◌≡◌, ◌+◌, ℕ, Bool, true, false, cond, List, [], ◌∷◌, ◌++◌, length, filter_map}
+use Rattle.std.proofs.Common.{Option, Some, None, option_map, Result, Ok, Err, append_assoc, length-append, refl, sym, ap, arith}
 use Rattle.std.specs.Option.{is_none, option_and_then}
 use Rattle.std.specs.List.{All, cons_option, position_from}
 use Rattle.std.specs.Str.{is_utf8}

@@ -34,7 +34,8 @@ has_members-object (number n) ms names e = cc
 has_members-object (string s) ms names e = cc
 has_members-object (array ds) ms names e = cc
 
-pub has_only-object : (d : Data) (ms : Members) (names : List (List ℕ)) → Some ms ≡ as_object d → has_only names d ≡ list_all (λ name. list_any (bytes_eq name) names) (names_in ms)
+pub has_only-object : (d : Data) (ms : Members) (names : List (List ℕ)) → Some ms ≡ as_object d
+    → has_only names d ≡ list_all (λ name. list_any (bytes_eq name) names) (names_in ms)
 has_only-object (object ns) ms names e = let same : ms ≡ ns = cc in ap (λ x. list_all (λ name. list_any (bytes_eq name) names) (names_in x)) (sym same)
 has_only-object null ms names e = cc
 has_only-object (boolean b) ms names e = cc

@@ -1,5 +1,6 @@
 -- Lines that are passed over, and the piece behind them.
-use Rattle.std.proofs.Common.{◌≡◌, ◌≢◌, ℕ, ◌<◌, inl, inr, Bool, true, false, List, [], ◌∷◌, ◌++◌, length, refl, sym, ap, ◌∙◌, subst, arith, append_assoc, append-nil, length-append, Option, Some, None}
+use Rattle.std.proofs.Common.{◌≡◌, ◌≢◌, ℕ, ◌<◌, inl, inr, Bool, true, false, List, [], ◌∷◌, ◌++◌, length}
+use Rattle.std.proofs.Common.{refl, sym, ap, ◌∙◌, subst, arith, append_assoc, append-nil, length-append, Option, Some, None}
 use Rattle.std.specs.Io.KnownBytes.{prepend_known}
 use Rattle.std.proofs.KnownBytes.{Consumes-trans}
 use Rattle.svr_lines.specs.declared.lines.Piece.{Piece}
@@ -8,7 +9,8 @@ use Rattle.svr_lines.specs.Lines.{IsUnbroken, IsWholeLines, is_skipped, pieces_o
 use Rattle.svr_lines.specs.Pieces.{HandsOut, TakesPiece, NextPiece, StopsInLine}
 use Rattle.svr_lines.specs.Reading.{Reading, Reads, KnowsEnd}
 use Rattle.svr_lines.specs.Steps.{EndsLine, TakesLine, StopsUnbroken, SkipsLines, is_blank_piece}
-use Rattle.svr_lines.proofs.Splits.{IsWholeLines-line, is_skipped-long, is_skipped-short, pieces_of-whole, pieces_of-line, pieces_of-passed, pieces_of-last, pieces_of-last_passed, pieces_of-nil, whole_part-whole, whole_part-unbroken}
+use Rattle.svr_lines.proofs.Splits.{IsWholeLines-line, is_skipped-long, is_skipped-short, pieces_of-whole, pieces_of-line, pieces_of-passed}
+use Rattle.svr_lines.proofs.Splits.{pieces_of-last, pieces_of-last_passed, pieces_of-nil, whole_part-whole, whole_part-unbroken}
 use Rattle.svr_lines.proofs.Stream.{Reads-none, Reads-then, taken_bytes-reads}
 
 -- ---- a line that ended

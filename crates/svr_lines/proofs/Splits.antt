@@ -1,5 +1,6 @@
 -- The lines of a text whose front is whole lines, and what is skipped in them.
-use Rattle.std.proofs.Common.{◌≡◌, ◌≢◌, ℕ, ◌<◌, ◌≤◌, inl, inr, true, false, not, cond, List, [], ◌∷◌, ◌++◌, length, refl, sym, ap, ◌∙◌, arith, append_assoc, append-nil}
+use Rattle.std.proofs.Common.{◌≡◌, ◌≢◌, ℕ, ◌<◌, ◌≤◌, inl, inr, true, false, not, cond, List}
+use Rattle.std.proofs.Common.{[], ◌∷◌, ◌++◌, length, refl, sym, ap, ◌∙◌, arith, append_assoc}
 use Rattle.std.proofs.lemmas.Bool.Decides.{nat_tests}
 use Rattle.std.proofs.lemmas.Bool.{cases_eq}
 use Rattle.std.proofs.lemmas.List.Elements.{filter-append}
@@ -112,18 +113,9 @@ whole_part-whole front rest w = elim w [
       ∙ ap (λ xs. xs ++ whole_part rest) (sym some.1)
 ]
 
--- a line in front of whole lines, or behind them, makes whole lines
+-- what ends in a line feed is whole lines
 pub IsWholeLines-line : (front line : List ℕ) → IsWholeLines (front ++ line ++ 10 ∷ [])
 IsWholeLines-line front line = inr (front ++ line, refl)
-
-pub IsWholeLines-append : (front rest : List ℕ) → IsWholeLines front → IsWholeLines rest → IsWholeLines (front ++ rest)
-IsWholeLines-append front rest w v = elim v [
-  | inl none ↦ elim w [
-    | inl nil ↦ inl (ap (λ xs. front ++ xs) none ∙ append-nil front ∙ nil)
-    | inr some ↦ inr (some.0, ap (λ xs. front ++ xs) none ∙ append-nil front ∙ some.1)
-  ]
-  | inr some ↦ inr (front ++ some.0, ap (λ xs. front ++ xs) some.1 ∙ sym (append_assoc front some.0 (10 ∷ [])))
-]
 
 -- ---- what is skipped
 

@@ -1,5 +1,7 @@
 -- What `parse` reads, as a function of the bytes.
-use Rattle.std.proofs.Common.{◌≡◌, ◌≢◌, ◌^◌, ◌<◌, ◌==◌, ◌&&◌, ℕ, zero, suc, ℤ, pos, negsuc, Bool, true, false, cond, List, [], ◌∷◌, length, drop, get_or, nat_lt, Some, None, Result, Ok, Err, MatchResult, FitsSigned, Bor, refl, sym, ap, subst, Decides, rules, arith}
+use Rattle.std.proofs.Common.{◌≡◌, ◌≢◌, ◌^◌, ◌<◌, ◌==◌, ◌&&◌, ℕ, zero, suc, ℤ, pos, negsuc}
+use Rattle.std.proofs.Common.{Bool, true, false, cond, List, [], ◌∷◌, length, drop, get_or, nat_lt, Some, None}
+use Rattle.std.proofs.Common.{Result, Ok, Err, MatchResult, FitsSigned, Bor, refl, sym, ap, subst, Decides, rules, arith}
 use native.Mathlib.Decide.{dec_lt}
 use Rattle.std.specs.Int.{w64}
 use Rattle.std.specs.List.{slice_get}
@@ -32,8 +34,10 @@ option_from_OkIff (Err e) P false v h d = refl
 
 pub parsed_int : {E : Type 0} (text : List ℕ) (r : Result ℤ E) → ParsesSigned w64 10 text r → result_ok r ≡ int_in text
 unfolding int_in
-parsed_int text r h = option_from_OkIff r _ _ _ h
-    (Decides-and (is_digits (without_leading_sign text)) (is_i64 (signed_digits_value 10 text)) (is_digits-Decides (without_leading_sign text)) (is_i64-Decides (signed_digits_value 10 text)))
+parsed_int text r h =
+    let digits = is_digits-Decides (without_leading_sign text) in
+    let fits = is_i64-Decides (signed_digits_value 10 text) in
+    option_from_OkIff r _ _ _ h (Decides-and (is_digits (without_leading_sign text)) (is_i64 (signed_digits_value 10 text)) digits fits)
 
 pub parsed_digits : {E : Type 0} (text : List ℕ) (r : Result ℕ E) → ParsesUnsigned 64 10 text r → get_or text 0 0 ≢ 43 → result_ok r ≡ digits_in text
 unfolding digits_in
@@ -90,7 +94,8 @@ pub not_utf8 : {E : Type 0} (text : List ℕ) (Q : E → Type 0) (r : Result (Bo
 not_utf8 text Q (Ok s) h e = λ u. cc
 not_utf8 text Q (Err x) h e = h.0
 
-pub same_text : {E : Type 0} (text : List ℕ) (Q : E → Type 0) (r : Result (Bor (List ℕ)) E) (s : Bor (List ℕ)) → ReadsText text Q r → result_ok r ≡ Some s → s.now ≡ text
+pub same_text : {E : Type 0} (text : List ℕ) (Q : E → Type 0) (r : Result (Bor (List ℕ)) E) (s : Bor (List ℕ)) → ReadsText text Q r
+    → result_ok r ≡ Some s → s.now ≡ text
 same_text text Q (Ok t) s h e = let same : t ≡ s = cc in subst (λ (x : Bor (List ℕ)). x.now ≡ text) same h.0
 same_text text Q (Err x) s h e = cc
 

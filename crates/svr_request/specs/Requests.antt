@@ -1,5 +1,6 @@
 -- What a line asks for.
-use Rattle.std.specs.Prelude.{ℕ, ℤ, pos, ◌^◌, ◌&&◌, Bool, false, List, [], ◌∷◌, map, nat_lt, nat_le, codes, if◌then◌else◌, Option, Some, None, option_and_then, option_map, Result, Ok, Err, ok_or}
+use Rattle.std.specs.Prelude.{ℕ, ℤ, pos, ◌^◌, ◌&&◌, Bool, false, List, [], ◌∷◌, map, nat_lt, nat_le, codes}
+use Rattle.std.specs.Prelude.{if◌then◌else◌, Option, Some, None, option_and_then, option_map, Result, Ok, Err, ok_or}
 use Rattle.std.specs.Str.{is_utf8, bytes_eq}
 use Rattle.serde_json.specs.Data.{Data, number, string, Items}
 use Rattle.serde_json.specs.Read.{read}

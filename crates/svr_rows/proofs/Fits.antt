@@ -1,5 +1,7 @@
 -- Cells against columns.
-use Rattle.std.proofs.Common.{◌≡◌, ℕ, suc, ◌+◌, ◌≤◌, ◌==◌, ◌*◌, if◌then◌else◌, cond, min, length, Bool, true, false, not, List, [], ◌∷◌, map, zip, position, Option, Some, None, pos, negsuc, nat_lt, codes, refl, sym, ap, ap₂, ◌∙◌, add-one, zero-add, arith}
+use Rattle.std.proofs.Common.{◌≡◌, ℕ, suc, ◌+◌, ◌≤◌, ◌==◌, ◌*◌, if◌then◌else◌, cond, min}
+use Rattle.std.proofs.Common.{length, Bool, true, false, not, List, [], ◌∷◌, map, zip, position, Option, Some, None}
+use Rattle.std.proofs.Common.{pos, negsuc, nat_lt, codes, refl, sym, ap, ap₂, ◌∙◌, add-one, zero-add, arith}
 use Rattle.std.specs.Option.{option_or}
 use Rattle.std.specs.List.{filter_map, position_from, sum_by}
 use Rattle.std.proofs.lemmas.Bool.{and_parts, false≢true}

@@ -1,22 +1,14 @@
 -- What changes keep, and inserts one after the other, for the crates above.
-use Rattle.std.proofs.Common.{◌≡◌, ◌≢◌, ◌<◌, ℕ, zero, suc, ◌+◌, List, [], ◌∷◌, ◌++◌, length, slice_get, option_map, Option, None, Some, refl, sym, ap, ◌∙◌, add-zero, arith}
+use Rattle.std.proofs.Common.{◌≡◌, ◌≢◌, ◌<◌, ℕ, zero, suc, ◌+◌, List, [], ◌∷◌, ◌++◌, length}
+use Rattle.std.proofs.Common.{slice_get, option_map, Option, None, Some, refl, sym, ap, ◌∙◌, add-zero, arith}
 use Rattle.std.proofs.lemmas.Option.{slice_get_within}
 use Rattle.svr_rows.specs.declared.row.Row.{Row}
 use Rattle.svr_rows.specs.declared.change.Change.TheVariants.{Insert}
 use Rattle.svr_rows.specs.declared.change.RowRefusal.{RowRefusal}
-use Rattle.svr_rows.specs.Rows.{TableRows, id_of, kinds_in, rows_in, with_row, without_row}
+use Rattle.svr_rows.specs.Rows.{TableRows, id_of, rows_in, with_row, without_row}
 use Rattle.svr_rows.specs.Changes.{changed, inserted, load_refusal, numbered, refusal_from, refusal_of, with_rows, with_rows_of}
 use Rattle.svr_rows.proofs.ById.{without_row-with_row}
 use Rattle.svr_rows.proofs.Tested.{CanPut-insert, has_row-insert}
-
-pub kinds_in-with_rows : (tables : List TableRows) (place : ℕ) (rows : List Row) (table : ℕ)
-    → kinds_in (with_rows tables place rows) table ≡ kinds_in tables table
-unfolding with_rows
-kinds_in-with_rows [] place rows table = refl
-kinds_in-with_rows (t ∷ tables) zero rows zero = refl
-kinds_in-with_rows (t ∷ tables) zero rows (suc table) = refl
-kinds_in-with_rows (t ∷ tables) (suc place) rows zero = refl
-kinds_in-with_rows (t ∷ tables) (suc place) rows (suc table) = kinds_in-with_rows tables place rows table
 
 pub rows_in-with_rows : (tables : List TableRows) (place : ℕ) (rows : List Row) → place < length tables
     → rows_in (with_rows tables place rows) place ≡ rows

@@ -1,5 +1,6 @@
 -- What a change makes of the rows, or why it is refused.
-use Rattle.std.specs.Prelude.{ℕ, ◌+◌, zero, suc, Bool, not, List, [], ◌∷◌, length, map, slice_get, nat_lt, nat_le, if◌then◌else◌, Option, Some, None, Result, Ok, Err}
+use Rattle.std.specs.Prelude.{ℕ, ◌+◌, zero, suc, Bool, not, List, [], ◌∷◌, length, map, slice_get}
+use Rattle.std.specs.Prelude.{nat_lt, nat_le, if◌then◌else◌, Option, Some, None, Result, Ok, Err}
 use Rattle.svr_rows.specs.declared.row.Row.{Row}
 use Rattle.svr_rows.specs.declared.change.Change.{Change}
 use Rattle.svr_rows.specs.declared.change.Change.TheVariants.{Insert, Update, Delete}

@@ -1,5 +1,6 @@
 -- Rows: of each table the list of its rows in ascending order of id, each id once.
-use Rattle.std.specs.Prelude.{◌≡◌, ℕ, ◌+◌, ◌==◌, Bool, true, false, not, pos, negsuc, List, [], ◌∷◌, length, map, sum_by, find, slice_get, nat_lt, if◌then◌else◌, Option, Some, None}
+use Rattle.std.specs.Prelude.{◌≡◌, ℕ, ◌+◌, ◌==◌, Bool, true, false, not, pos, negsuc, List, [], ◌∷◌}
+use Rattle.std.specs.Prelude.{length, map, sum_by, find, slice_get, nat_lt, if◌then◌else◌, Option, Some, None}
 use Rattle.std.specs.List.{filter, list_any}
 use Rattle.svr_schema.specs.declared.component.Cell.{Cell}
 use Rattle.svr_schema.specs.declared.component.Cell.TheVariants as cell

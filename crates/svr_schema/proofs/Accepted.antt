@@ -1,5 +1,6 @@
 -- What a value keeps of which all rules hold.
-use Rattle.std.proofs.Common.{◌≡◌, ◌≤◌, ◌&&◌, ℕ, ℤ, pos, Bool, true, false, cond, List, [], ◌∷◌, codes, nat_le, Option, Some, None, option_and_then, refl, subst, ◌≤ℤ◌, arith}
+use Rattle.std.proofs.Common.{◌≡◌, ◌≤◌, ◌&&◌, ℕ, ℤ, pos, Bool, true, false, cond, List, [], ◌∷◌}
+use Rattle.std.proofs.Common.{codes, nat_le, Option, Some, None, option_and_then, refl, subst, ◌≤ℤ◌, arith}
 use Rattle.std.specs.List.{list_all}
 use Rattle.std.specs.Str.{bytes_eq}
 use Rattle.std.proofs.lemmas.List.Elements.{All-from_recursion}
@@ -55,7 +56,8 @@ count_within-some name low high d n e =
     let b = nat_le-true one.0 high both.1 in
     (omega arith, omega arith)
 
-pub either : {A : Type 0} (P : A → Type 0) (b : Bool) (x y : Option A) → ((a : A) → x ≡ Some a → P a) → ((a : A) → y ≡ Some a → P a) → (a : A) → cond b x y ≡ Some a → P a
+pub either : {A : Type 0} (P : A → Type 0) (b : Bool) (x y : Option A) → ((a : A) → x ≡ Some a → P a) → ((a : A) → y ≡ Some a → P a)
+    → (a : A) → cond b x y ≡ Some a → P a
 either P true x y f g = f
 either P false x y f g = g
 
@@ -89,7 +91,8 @@ method_of_kind-IsMethod k m =
     (either IsMethod (bytes_eq k (codes "chunk")) _ _ (chunk-IsMethod m) (λ s e. cc))))
 
 -- the method's value, by its kind
-pub method-steps : (d : Data) (s : MethodSpec) → method_in d ≡ Some s → (m : Data) × (get (codes "method") d ≡ Some m) × (method_of_kind (text_at (codes "kind") m) m ≡ Some s)
+pub method-steps : (d : Data) (s : MethodSpec) → method_in d ≡ Some s
+    → (m : Data) × (get (codes "method") d ≡ Some m) × (method_of_kind (text_at (codes "kind") m) m ≡ Some s)
 unfolding method_in
 method-steps d s e = and_then-some (get (codes "method") d) _ s e
 
@@ -122,7 +125,8 @@ ComponentsHold-from_none tables text_table d e =
 
 -- ---- the schema
 
-pub accepted-IsSchema : (d : Data) (p : ℕ × ℕ) (n : ℤ) (m : MethodSpec) → table_fault d ≡ None → text_in d ≡ Some p → component_fault (tables_in d) p.0 d ≡ None → divisor_in d ≡ Some n
+pub accepted-IsSchema : (d : Data) (p : ℕ × ℕ) (n : ℤ) (m : MethodSpec) → table_fault d ≡ None → text_in d ≡ Some p
+    → component_fault (tables_in d) p.0 d ≡ None → divisor_in d ≡ Some n
     → method_in d ≡ Some m
     → IsSchema (record { tables = tables_in d; text_table = p.0; text_column = p.1; components = components_in (tables_in d) p.0 d; divisor = n; method = m })
 accepted-IsSchema d p n m e t f g h =

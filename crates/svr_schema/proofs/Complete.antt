@@ -9,11 +9,13 @@ use Rattle.svr_schema.specs.declared.component.Component.TheVariants.{Over}
 use Rattle.svr_schema.specs.declared.read_component.Kind.{Kind}
 use Rattle.svr_schema.specs.declared.read_component.Kind.TheVariants as kinds
 use Rattle.svr_schema.specs.declared.table.Table.{Table}
-use Rattle.svr_schema.specs.Components.{component_as, component_in, filter_in, int_column, is_filtered, is_filtered_as, is_placed, is_placed_as, is_weighted, is_weighted_as, kind_in, over_in, own_in, places_in, stand_in, weight_at}
+use Rattle.svr_schema.specs.Components.{component_as, component_in, filter_in, int_column, is_filtered, is_filtered_as, is_placed, is_placed_as}
+use Rattle.svr_schema.specs.Components.{is_weighted, is_weighted_as, kind_in, over_in, own_in, places_in, stand_in, weight_at}
 use Rattle.svr_schema.proofs.Composed.{Placed-from_some}
 use Rattle.svr_schema.proofs.Steps.{and_true, is_some-true}
 
-own-some : (tables : List Table) (text_table : ℕ) (d : Data) → is_some (int_column tables text_table (codes "column") d) ≡ true → is_some (weight_at (codes "weight") d) ≡ true
+own-some : (tables : List Table) (text_table : ℕ) (d : Data) → is_some (int_column tables text_table (codes "column") d) ≡ true
+    → is_some (weight_at (codes "weight") d) ≡ true
     → is_some (own_in tables text_table d) ≡ true
 own-some tables text_table d p w =
     let column = is_some-true _ p in

@@ -1,5 +1,6 @@
 -- What a component of a value keeps.
-use Rattle.std.proofs.Common.{◌≡◌, ◌≢◌, ◌≤◌, ◌==◌, ℕ, suc, ℤ, pos, neg_ℤ, true, not, MatchBool, List, [], ◌∷◌, length, codes, Option, Some, None, refl, ap, subst, arith}
+use Rattle.std.proofs.Common.{◌≡◌, ◌≢◌, ◌≤◌, ◌==◌, ℕ, suc, ℤ, pos, neg_ℤ, true, not, MatchBool}
+use Rattle.std.proofs.Common.{List, [], ◌∷◌, length, codes, Option, Some, None, refl, ap, subst, arith}
 use Rattle.std.specs.List.{AllByRecursion, cons_option, filter_map, slice_get}
 use Rattle.std.specs.Option.{option_map_or}
 use Rattle.std.proofs.lemmas.Bool.Decides.{nat_tests}
@@ -18,7 +19,8 @@ use Rattle.svr_schema.specs.declared.table.ColumnKind.{ColumnKind}
 use Rattle.svr_schema.specs.declared.table.ColumnKind.TheVariants as kind
 use Rattle.svr_schema.specs.declared.table.Column.{Column}
 use Rattle.svr_schema.specs.declared.table.Table.{Table}
-use Rattle.svr_schema.specs.Components.{aggregated, cell_of, component_as, component_in, kind_in, filter_at, filter_in, filter_of, int_column, other_table, over_in, own_in, places_in, stand_in, weight_at}
+use Rattle.svr_schema.specs.Components.{aggregated, cell_of, component_as, component_in, kind_in, filter_at, filter_in, filter_of}
+use Rattle.svr_schema.specs.Components.{int_column, other_table, over_in, own_in, places_in, stand_in, weight_at}
 use Rattle.svr_schema.specs.Lawful.{IsComponent, IsFilter, IsOfKind, IsWeight, has_column, has_empty, kind_of}
 use Rattle.serde_json.specs.Find.{get}
 use Rattle.svr_json.specs.Parts.{has_members}
@@ -44,7 +46,8 @@ pub record Stands (tables : List Table) (at : ℕ) : Type 0 where
   pub at_is : slice_get tables at ≡ Some there
   pub columns : columns_of tables at ≡ there.columns
 
-stands : (o : Option Table) (i : ℕ) (c : Column) → slice_get (option_map_or (λ t. t.columns) o []) i ≡ Some c → (t : Table) × (o ≡ Some t) × (option_map_or (λ t. t.columns) o [] ≡ t.columns)
+stands : (o : Option Table) (i : ℕ) (c : Column) → slice_get (option_map_or (λ t. t.columns) o []) i ≡ Some c
+    → (t : Table) × (o ≡ Some t) × (option_map_or (λ t. t.columns) o [] ≡ t.columns)
 stands None i c e = cc
 stands (Some t) i c e = (t, refl, refl)
 
@@ -120,7 +123,8 @@ pub record Placed (tables : List Table) (text_table : ℕ) (h : Aggregate) (d : 
   pub by : int_column tables p.table (codes "by") d ≡ Some p.by
   pub column : aggregated tables p.table h d ≡ Some p.column
 
-pub Placed-from_some : (tables : List Table) (text_table : ℕ) (h : Aggregate) (d : Data) (p : Places) → places_in tables text_table h d ≡ Some p → Placed tables text_table h d p
+pub Placed-from_some : (tables : List Table) (text_table : ℕ) (h : Aggregate) (d : Data) (p : Places)
+    → places_in tables text_table h d ≡ Some p → Placed tables text_table h d p
 Placed-from_some tables text_table h d p e =
     let one = and_then-some (other_table tables text_table d) _ p e in
     let two = and_then-some (int_column tables one.0 (codes "by") d) _ p one.2 in
@@ -129,7 +133,8 @@ Placed-from_some tables text_table h d p e =
     let is : q ≡ p = cc three.2 in
     subst (Placed tables text_table h d) is (record { table = one.1; by = two.1; column = three.1 })
 
-IsOver-from_some : (tables : List Table) (text_table : ℕ) (h : Aggregate) (d : Data) (c : Component) → over_in tables text_table h d ≡ Some c → IsComponent tables text_table c
+IsOver-from_some : (tables : List Table) (text_table : ℕ) (h : Aggregate) (d : Data) (c : Component)
+    → over_in tables text_table h d ≡ Some c → IsComponent tables text_table c
 IsOver-from_some tables text_table h d c e =
     let one = and_then-some (places_in tables text_table h d) _ c e in
     let p = one.0 in
@@ -152,14 +157,16 @@ IsOver-from_some tables text_table h d c e =
       filtered = filter;
     })
 
-pub component_as-IsComponent : (k : Option Kind) (tables : List Table) (text_table : ℕ) (d : Data) (c : Component) → component_as k tables text_table d ≡ Some c → IsComponent tables text_table c
+pub component_as-IsComponent : (k : Option Kind) (tables : List Table) (text_table : ℕ) (d : Data) (c : Component)
+    → component_as k tables text_table d ≡ Some c → IsComponent tables text_table c
 component_as-IsComponent None tables text_table d c e = cc
 component_as-IsComponent (Some kinds.Own) tables text_table d c e = IsOwn-from_some tables text_table d c e
 component_as-IsComponent (Some (kinds.Over h)) tables text_table d c e = IsOver-from_some tables text_table h d c e
 
 -- ---- the list of components
 
-listed : (P : Component → Type 0) (o : Option Component) (rest : List Component) → ((c : Component) → o ≡ Some c → P c) → AllByRecursion P rest → AllByRecursion P (cons_option o rest)
+listed : (P : Component → Type 0) (o : Option Component) (rest : List Component) → ((c : Component) → o ≡ Some c → P c)
+    → AllByRecursion P rest → AllByRecursion P (cons_option o rest)
 listed P None rest h r = r
 listed P (Some c) rest h r = (h c refl, r)
 

@@ -27,31 +27,37 @@ behind-text : (d : Data) (p : ℕ × ℕ) → table_fault d ≡ None → text_in
 unfolding late
 behind-text d p e t = behind d e ∙ ap (λ q. fault_behind q d) t
 
-pub failing-components : (d : Data) (p : ℕ × ℕ) (n : ℕ) → table_fault d ≡ None → text_in d ≡ Some p → component_fault (tables_in d) p.0 d ≡ Some n → failing_rule d ≡ Some n
+pub failing-components : (d : Data) (p : ℕ × ℕ) (n : ℕ) → table_fault d ≡ None → text_in d ≡ Some p
+    → component_fault (tables_in d) p.0 d ≡ Some n → failing_rule d ≡ Some n
 failing-components d p n e t f = behind-text d p e t ∙ ap (λ q. or_then q (late d)) f
 
 behind-components : (d : Data) (p : ℕ × ℕ) → table_fault d ≡ None → text_in d ≡ Some p → component_fault (tables_in d) p.0 d ≡ None → failing_rule d ≡ late d
 behind-components d p e t f = behind-text d p e t ∙ ap (λ q. or_then q (late d)) f
 
-pub failing-divisor : (d : Data) (p : ℕ × ℕ) → table_fault d ≡ None → text_in d ≡ Some p → component_fault (tables_in d) p.0 d ≡ None → divisor_in d ≡ None → failing_rule d ≡ Some 13
+pub failing-divisor : (d : Data) (p : ℕ × ℕ) → table_fault d ≡ None → text_in d ≡ Some p → component_fault (tables_in d) p.0 d ≡ None
+    → divisor_in d ≡ None → failing_rule d ≡ Some 13
 unfolding late
 failing-divisor d p e t f g = behind-components d p e t f ∙ ap (λ o. rule 13 (is_some o) (rule 14 (is_some (method_in d) && is_short d) None)) g
 
-behind-divisor : (d : Data) (p : ℕ × ℕ) (n : ℤ) → table_fault d ≡ None → text_in d ≡ Some p → component_fault (tables_in d) p.0 d ≡ None → divisor_in d ≡ Some n
+behind-divisor : (d : Data) (p : ℕ × ℕ) (n : ℤ) → table_fault d ≡ None → text_in d ≡ Some p
+    → component_fault (tables_in d) p.0 d ≡ None → divisor_in d ≡ Some n
     → failing_rule d ≡ rule 14 (is_some (method_in d) && is_short d) None
 unfolding late
 behind-divisor d p n e t f g = behind-components d p e t f ∙ ap (λ o. rule 13 (is_some o) (rule 14 (is_some (method_in d) && is_short d) None)) g
 
-pub failing-method : (d : Data) (p : ℕ × ℕ) (n : ℤ) → table_fault d ≡ None → text_in d ≡ Some p → component_fault (tables_in d) p.0 d ≡ None → divisor_in d ≡ Some n
+pub failing-method : (d : Data) (p : ℕ × ℕ) (n : ℤ) → table_fault d ≡ None → text_in d ≡ Some p
+    → component_fault (tables_in d) p.0 d ≡ None → divisor_in d ≡ Some n
     → method_in d ≡ None → failing_rule d ≡ Some 14
 failing-method d p n e t f g m = behind-divisor d p n e t f g ∙ ap (λ o. rule 14 (is_some o && is_short d) None) m
 
-pub failing-length : (d : Data) (p : ℕ × ℕ) (n : ℤ) (m : MethodSpec) → table_fault d ≡ None → text_in d ≡ Some p → component_fault (tables_in d) p.0 d ≡ None → divisor_in d ≡ Some n
+pub failing-length : (d : Data) (p : ℕ × ℕ) (n : ℤ) (m : MethodSpec) → table_fault d ≡ None → text_in d ≡ Some p
+    → component_fault (tables_in d) p.0 d ≡ None → divisor_in d ≡ Some n
     → method_in d ≡ Some m → is_short d ≡ false → failing_rule d ≡ Some 14
 failing-length d p n m e t f g h s =
     behind-divisor d p n e t f g ∙ ap (λ o. rule 14 (is_some o && is_short d) None) h ∙ ap (λ b. rule 14 b None) s
 
-pub failing-none : (d : Data) (p : ℕ × ℕ) (n : ℤ) (m : MethodSpec) → table_fault d ≡ None → text_in d ≡ Some p → component_fault (tables_in d) p.0 d ≡ None → divisor_in d ≡ Some n
+pub failing-none : (d : Data) (p : ℕ × ℕ) (n : ℤ) (m : MethodSpec) → table_fault d ≡ None → text_in d ≡ Some p
+    → component_fault (tables_in d) p.0 d ≡ None → divisor_in d ≡ Some n
     → method_in d ≡ Some m → is_short d ≡ true → failing_rule d ≡ None
 failing-none d p n m e t f g h s =
     behind-divisor d p n e t f g ∙ ap (λ o. rule 14 (is_some o && is_short d) None) h ∙ ap (λ b. rule 14 b None) s

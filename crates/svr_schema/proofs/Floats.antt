@@ -1,5 +1,6 @@
 -- A schema's value has no float.
-use Rattle.std.proofs.Common.{◌≡◌, ◌||◌, ℕ, ℤ, Bool, true, false, not, List, [], ◌∷◌, Option, Some, None, option_and_then, is_some, unwrap_or, Ordering, Less, Equal, Greater, bytes_eq, nat_cmp, is_eq, refl, sym, ap, subst, ◌∙◌}
+use Rattle.std.proofs.Common.{◌≡◌, ◌||◌, ℕ, ℤ, Bool, true, false, not, List, [], ◌∷◌, Option, Some, None, option_and_then}
+use Rattle.std.proofs.Common.{is_some, unwrap_or, Ordering, Less, Equal, Greater, bytes_eq, nat_cmp, is_eq, refl, sym, ap, subst, ◌∙◌}
 use Rattle.std.specs.Cmp.Lexicographic.{pointwise, slice_cmp}
 use Rattle.std.specs.List.{AllByRecursion, list_any}
 use Rattle.std.specs.Option.{option_map_or}
@@ -67,13 +68,15 @@ members_no_float (member k e ms) (n ∷ names) p d a =
     let first = and_true (bytes_eq k n) (pointwise bytes_eq (names_in ms) names) p in
     let same : k ≡ n = (bytes_eq-Decides k n).0 first.0 in
     let differ = and_true (not (list_any (bytes_eq n) names)) (are_different names) d in
-    let here : option_map_or has_float (get_member n (member n e ms)) false ≡ false = subst (λ (x : List ℕ). option_map_or has_float (get_member n (member x e ms)) false ≡ false) same a.0 in
+    let at_name = λ (x : List ℕ). option_map_or has_float (get_member n (member x e ms)) false ≡ false in
+    let here : option_map_or has_float (get_member n (member n e ms)) false ≡ false = subst at_name same a.0 in
     let value : has_float e ≡ false = subst (λ (o : Option Data). option_map_or has_float o false ≡ false) (get_member-first n e ms) here in
     let rest = behind n e ms names (not_true _ differ.0) (subst (λ (x : List ℕ). AllByRecursion (NoFloatAt (object (member x e ms))) names) same a.1) in
     or_false (has_float e) (members_have_float ms) value (members_no_float ms names first.1 differ.1 rest)
 
 -- an object of these members, none of which has a float
-pub object_no_float : (d : Data) (names : List (List ℕ)) → has_members names d ≡ true → are_different names ≡ true → AllByRecursion (NoFloatAt d) names → has_float d ≡ false
+pub object_no_float : (d : Data) (names : List (List ℕ)) → has_members names d ≡ true → are_different names ≡ true
+    → AllByRecursion (NoFloatAt d) names → has_float d ≡ false
 object_no_float (object ms) names h d a = members_no_float ms names h d a
 object_no_float null names h d a = absurd (false≢true h)
 object_no_float (boolean b) names h d a = absurd (false≢true h)
@@ -112,7 +115,8 @@ u64_no_float (array ds) n e = cc
 u64_no_float (object ms) n e = cc
 
 -- what a step over the member finds
-pub NoFloatAt-by : {A : Type 0} (d : Data) (name : List ℕ) (f : Data → Option A) (a : A) → ((v : Data) → f v ≡ Some a → has_float v ≡ false) → option_and_then f (get name d) ≡ Some a → NoFloatAt d name
+pub NoFloatAt-by : {A : Type 0} (d : Data) (name : List ℕ) (f : Data → Option A) (a : A)
+    → ((v : Data) → f v ≡ Some a → has_float v ≡ false) → option_and_then f (get name d) ≡ Some a → NoFloatAt d name
 NoFloatAt-by d name f a h e =
     let one = and_then-some (get name d) f a e in
     subst (λ (o : Option Data). option_map_or has_float o false ≡ false) (sym one.1) (h one.0 one.2)
@@ -132,7 +136,8 @@ NoFloatAt-text d name h =
     let s = some_text (option_and_then as_str (get name d)) h in
     NoFloatAt-by d name as_str s.0 (λ v e. string_no_float v s.0 e) s.1
 
-number_chain : {A : Type 0} (f : Num → Option A) (o : Option Data) → option_and_then f (option_and_then as_number o) ≡ option_and_then (λ v. option_and_then f (as_number v)) o
+number_chain : {A : Type 0} (f : Num → Option A) (o : Option Data)
+    → option_and_then f (option_and_then as_number o) ≡ option_and_then (λ v. option_and_then f (as_number v)) o
 number_chain f None = refl
 number_chain f (Some v) = refl
 
@@ -159,7 +164,8 @@ array_no_float (object ms) ds e a = cc
 elements_at-is : (d : Data) (name : List ℕ) (v : Data) → get name d ≡ Some v → elements_at name d ≡ elements_of v
 elements_at-is d name v e = ap (λ o. option_map_or elements_of o []) e
 
-pub NoFloatAt-array : (d : Data) (name : List ℕ) → is_some (option_and_then as_array (get name d)) ≡ true → AllByRecursion (λ e. has_float e ≡ false) (elements_at name d) → NoFloatAt d name
+pub NoFloatAt-array : (d : Data) (name : List ℕ) → is_some (option_and_then as_array (get name d)) ≡ true
+    → AllByRecursion (λ e. has_float e ≡ false) (elements_at name d) → NoFloatAt d name
 NoFloatAt-array d name h a =
     let ds = is_some-true _ h in
     let one = and_then-some (get name d) as_array ds.0 ds.1 in

@@ -5,7 +5,8 @@ use Rattle.std.specs.Str.{bytes_eq}
 use Rattle.svr_json.proofs.PartsLemmas.{list_any-map}
 use Rattle.svr_schema.specs.Lawful.{are_different}
 
-are_different-cons : {N : Type 0} (f : N → List ℕ) (x : N) (xs : List N) → are_different (map f (x ∷ xs)) ≡ (not (list_any (λ o. bytes_eq (f x) (f o)) xs) && are_different (map f xs))
+are_different-cons : {N : Type 0} (f : N → List ℕ) (x : N) (xs : List N)
+    → are_different (map f (x ∷ xs)) ≡ (not (list_any (λ o. bytes_eq (f x) (f o)) xs) && are_different (map f xs))
 unfolding are_different
 are_different-cons f x xs = ap (λ b. not b && are_different (map f xs)) (list_any-map (bytes_eq (f x)) f xs)
 

@@ -1,5 +1,6 @@
 -- A value of which all rules hold has no float.
-use Rattle.std.proofs.Common.{◌≡◌, ◌||◌, ◌⊎◌, inl, inr, ℕ, ℤ, zero, suc, Bool, true, false, List, [], ◌∷◌, map, codes, Option, Some, None, option_and_then, is_some, refl, subst, ◌∙◌}
+use Rattle.std.proofs.Common.{◌≡◌, ◌||◌, ◌⊎◌, inl, inr, ℕ, ℤ, zero, suc, Bool, true, false, List, []}
+use Rattle.std.proofs.Common.{◌∷◌, map, codes, Option, Some, None, option_and_then, is_some, refl, subst, ◌∙◌}
 use Rattle.std.specs.List.{AllByRecursion, list_all, slice_get}
 use Rattle.std.specs.Option.{option_map_or}
 use Rattle.std.specs.Str.{bytes_eq}
@@ -21,7 +22,9 @@ use Rattle.svr_schema.specs.declared.table.ColumnKind.{ColumnKind}
 use Rattle.svr_schema.specs.declared.table.ColumnKind.TheVariants as kind
 use Rattle.svr_schema.specs.declared.table.Column.{Column}
 use Rattle.svr_schema.specs.declared.table.Table.{Table}
-use Rattle.svr_schema.specs.Components.{cell_of, filter_at, filter_in, filter_of, filtered_members_of, has_members_of, int_column, is_component, is_filtered, is_filtered_as, is_placed, is_placed_as, is_weighted, is_weighted_as, kind_in, kind_of_name, aggregated, members_of, places_in, stand_in, weight_at}
+use Rattle.svr_schema.specs.Components.{cell_of, filter_at, filter_in, filter_of, filtered_members_of, has_members_of, int_column}
+use Rattle.svr_schema.specs.Components.{is_component, is_filtered, is_filtered_as, is_placed, is_placed_as, is_weighted, is_weighted_as}
+use Rattle.svr_schema.specs.Components.{kind_in, kind_of_name, aggregated, members_of, places_in, stand_in, weight_at}
 use Rattle.svr_schema.specs.Lawful.{are_different, has_column, is_name}
 use Rattle.svr_schema.specs.Lookups.{column_at, column_of_kind, table_at}
 use Rattle.svr_schema.specs.Parts.{count_within, elements_at, is_list_at, only_if, text_at, whole_at}
@@ -55,13 +58,15 @@ columns_named [] at h = refl
 columns_named (t ∷ tables) zero h = (and_true (is_name t.name) _ (and_true (is_named t) (list_all is_named tables) h).0).1
 columns_named (t ∷ tables) (suc at) h = columns_named tables at (and_true (is_named t) (list_all is_named tables) h).1
 
-column_named : (columns : List Column) (name : List ℕ) (i : ℕ) → list_all (λ c. is_name c.name) columns ≡ true → column_at columns name ≡ Some i → name ≡ [] → ⊥
+column_named : (columns : List Column) (name : List ℕ) (i : ℕ) → list_all (λ c. is_name c.name) columns ≡ true
+    → column_at columns name ≡ Some i → name ≡ [] → ⊥
 column_named columns name i h e none =
     let found = position-at _ columns i e in
     let same = (bytes_eq-Decides found.0.name name).0 found.2 in
     unnamed found.0.name (list_all-at (λ c. is_name c.name) columns i found.0 h found.1) (same ∙ none)
 
-column_of_kind_named : (k : ColumnKind) (columns : List Column) (name : List ℕ) (i : ℕ) → list_all (λ c. is_name c.name) columns ≡ true → column_of_kind k columns name ≡ Some i → name ≡ [] → ⊥
+column_of_kind_named : (k : ColumnKind) (columns : List Column) (name : List ℕ) (i : ℕ) → list_all (λ c. is_name c.name) columns ≡ true
+    → column_of_kind k columns name ≡ Some i → name ≡ [] → ⊥
 column_of_kind_named k columns name i h e none =
     let found = position-at _ columns i e in
     let same = (bytes_eq-Decides found.0.name name).0 (and_true _ _ found.2).0 in
@@ -79,14 +84,16 @@ column_no_float c h n =
     object_no_float c (codes "name" ∷ codes "type" ∷ []) both.0 refl
     (NoFloatAt-text c (codes "name") (unnamed _ n), (NoFloatAt-text c (codes "type") (typed _ both.1), tt))
 
-columns_no_float : (es : List Data) → list_all is_column es ≡ true → list_all (λ c. is_name c.name) (map column_in es) ≡ true → AllByRecursion (λ e. has_float e ≡ false) es
+columns_no_float : (es : List Data) → list_all is_column es ≡ true → list_all (λ c. is_name c.name) (map column_in es) ≡ true
+    → AllByRecursion (λ e. has_float e ≡ false) es
 columns_no_float [] h n = tt
 columns_no_float (e ∷ es) h n =
     let here = and_true (is_column e) _ h in
     let name = and_true (is_name (text_at (codes "name") e)) _ n in
     (column_no_float e here.0 name.0, columns_no_float es here.1 name.1)
 
-listed : (name : List ℕ) (low high : ℕ) (d : Data) → is_list_at name low high d ≡ true → AllByRecursion (λ e. has_float e ≡ false) (elements_at name d) → NoFloatAt d name
+listed : (name : List ℕ) (low high : ℕ) (d : Data) → is_list_at name low high d ≡ true
+    → AllByRecursion (λ e. has_float e ≡ false) (elements_at name d) → NoFloatAt d name
 listed name low high d h a = NoFloatAt-array d name (and_true _ _ (and_true _ _ h).0).0 a
 
 table_no_float : (e : Data) → is_table e ≡ true → has_columns e ≡ true → is_named (table_in e) ≡ true → has_float e ≡ false
@@ -97,7 +104,8 @@ table_no_float e h c n =
     object_no_float e (codes "columns" ∷ codes "name" ∷ []) h refl
     (listed (codes "columns") 1 8 e columns.0 (columns_no_float (elements_at (codes "columns") e) columns.1 names.1), (NoFloatAt-text e (codes "name") (unnamed _ names.0), tt))
 
-tables_no_float : (es : List Data) → list_all is_table es ≡ true → list_all has_columns es ≡ true → list_all is_named (map table_in es) ≡ true → AllByRecursion (λ e. has_float e ≡ false) es
+tables_no_float : (es : List Data) → list_all is_table es ≡ true → list_all has_columns es ≡ true
+    → list_all is_named (map table_in es) ≡ true → AllByRecursion (λ e. has_float e ≡ false) es
 tables_no_float [] h c n = tt
 tables_no_float (e ∷ es) h c n =
     let here = and_true (is_table e) _ h in
@@ -135,7 +143,8 @@ filter_no_float columns f g n e =
       (NoFloatAt-is f (codes "equals") three.0 three.1 (cell_no_float two.0.kind three.0 four.0 four.1), tt),
     )
 
-filter_at_no_float : (columns : List Column) (o : Option Data) (g : Option Filter) → list_all (λ c. is_name c.name) columns ≡ true → filter_at columns o ≡ Some g → option_map_or has_float o false ≡ false
+filter_at_no_float : (columns : List Column) (o : Option Data) (g : Option Filter) → list_all (λ c. is_name c.name) columns ≡ true
+    → filter_at columns o ≡ Some g → option_map_or has_float o false ≡ false
 filter_at_no_float columns None g n e = refl
 filter_at_no_float columns (Some f) g n e =
     let one = option_map-some Some (filter_of columns f) g e in
@@ -159,7 +168,8 @@ either_true : (a b : Bool) → (a || b) ≡ true → (a ≡ true) ⊎ (b ≡ tru
 either_true true b e = inl refl
 either_true false b e = inr e
 
-extreme_no_float : (d : Data) → Common d → NoFloatAt d (codes "column") → NoFloatAt d (codes "empty") → (has_members (members_of how.Min) d || has_members (filtered_members_of how.Min) d) ≡ true
+extreme_no_float : (d : Data) → Common d → NoFloatAt d (codes "column") → NoFloatAt d (codes "empty")
+    → (has_members (members_of how.Min) d || has_members (filtered_members_of how.Min) d) ≡ true
     → has_float d ≡ false
 unfolding are_different
 extreme_no_float d m column empty h = elim (either_true (has_members (members_of how.Min) d) _ h) [
@@ -182,14 +192,16 @@ over_no_float how.Min d m e c s = let z = is_some-true (stand_in how.Min d) s in
 over_no_float how.Max d m e c s = let z = is_some-true (stand_in how.Max d) s in extreme_no_float d m (c refl) (weight_no_float d (codes "empty") z.0 z.1) e
 over_no_float how.Avg d m e c s = let z = is_some-true (stand_in how.Avg d) s in extreme_no_float d m (c refl) (weight_no_float d (codes "empty") z.0 z.1) e
 
-aggregated_no_float : (tables : List Table) (table i : ℕ) (h : Aggregate) (d : Data) → list_all is_named tables ≡ true → aggregated tables table h d ≡ Some i → has_column h ≡ true → NoFloatAt d (codes "column")
+aggregated_no_float : (tables : List Table) (table i : ℕ) (h : Aggregate) (d : Data) → list_all is_named tables ≡ true
+    → aggregated tables table h d ≡ Some i → has_column h ≡ true → NoFloatAt d (codes "column")
 aggregated_no_float tables table i how.Count d n e c = absurd (false≢true c)
 aggregated_no_float tables table i how.Sum d n e c = NoFloatAt-text d (codes "column") (column_of_kind_named kind.Int _ _ i (columns_named tables table n) e)
 aggregated_no_float tables table i how.Min d n e c = NoFloatAt-text d (codes "column") (column_of_kind_named kind.Int _ _ i (columns_named tables table n) e)
 aggregated_no_float tables table i how.Max d n e c = NoFloatAt-text d (codes "column") (column_of_kind_named kind.Int _ _ i (columns_named tables table n) e)
 aggregated_no_float tables table i how.Avg d n e c = NoFloatAt-text d (codes "column") (column_of_kind_named kind.Int _ _ i (columns_named tables table n) e)
 
-own_no_float : (tables : List Table) (text_table : ℕ) (d : Data) → list_all is_named tables ≡ true → kind_in d ≡ Some kinds.Own → has_members_of (Some kinds.Own) d ≡ true
+own_no_float : (tables : List Table) (text_table : ℕ) (d : Data) → list_all is_named tables ≡ true → kind_in d ≡ Some kinds.Own
+    → has_members_of (Some kinds.Own) d ≡ true
     → is_placed_as (Some kinds.Own) tables text_table d ≡ true → is_weighted_as (Some kinds.Own) d ≡ true → has_float d ≡ false
 unfolding are_different
 own_no_float tables text_table d n k m p w =
@@ -200,8 +212,10 @@ own_no_float tables text_table d n k m p w =
       (NoFloatAt-text d (codes "kind") (kinded d kinds.Own k), (weight_no_float d (codes "weight") weight.0 weight.1, tt)),
     )
 
-rows_no_float : (tables : List Table) (text_table : ℕ) (h : Aggregate) (d : Data) → list_all is_named tables ≡ true → kind_in d ≡ Some (kinds.Over h) → has_members_of (Some (kinds.Over h)) d ≡ true
-    → is_placed_as (Some (kinds.Over h)) tables text_table d ≡ true → is_weighted_as (Some (kinds.Over h)) d ≡ true → is_filtered_as (Some (kinds.Over h)) tables text_table d ≡ true → has_float d ≡ false
+rows_no_float : (tables : List Table) (text_table : ℕ) (h : Aggregate) (d : Data) → list_all is_named tables ≡ true
+    → kind_in d ≡ Some (kinds.Over h) → has_members_of (Some (kinds.Over h)) d ≡ true
+    → is_placed_as (Some (kinds.Over h)) tables text_table d ≡ true → is_weighted_as (Some (kinds.Over h)) d ≡ true
+    → is_filtered_as (Some (kinds.Over h)) tables text_table d ≡ true → has_float d ≡ false
 rows_no_float tables text_table h d n k m p w f =
     let places = is_some-true (places_in tables text_table h d) p in
     let numbers = and_true (is_some (weight_at (codes "weight") d)) (is_some (stand_in h d)) w in
@@ -225,15 +239,18 @@ component_no_float None tables text_table d n k m p w f = absurd (false≢true m
 component_no_float (Some kinds.Own) tables text_table d n k m p w f = own_no_float tables text_table d n k m p w
 component_no_float (Some (kinds.Over h)) tables text_table d n k m p w f = rows_no_float tables text_table h d n k m p w f
 
-components_no_float : (tables : List Table) (text_table : ℕ) (es : List Data) → list_all is_named tables ≡ true → list_all is_component es ≡ true → list_all (is_placed tables text_table) es ≡ true
+components_no_float : (tables : List Table) (text_table : ℕ) (es : List Data) → list_all is_named tables ≡ true
+    → list_all is_component es ≡ true → list_all (is_placed tables text_table) es ≡ true
     → list_all is_weighted es ≡ true → list_all (is_filtered tables text_table) es ≡ true → AllByRecursion (λ e. has_float e ≡ false) es
 components_no_float tables text_table [] n m p w f = tt
 components_no_float tables text_table (e ∷ es) n m p w f =
     let members = and_true (is_component e) _ m in
     let placed = and_true (is_placed tables text_table e) _ p in
     let weighted = and_true (is_weighted e) _ w in
-    let filtered = and_true (is_filtered tables text_table e) _ f in
-    (component_no_float (kind_in e) tables text_table e n refl members.0 placed.0 weighted.0 filtered.0, components_no_float tables text_table es n members.1 placed.1 weighted.1 filtered.1)
+    let filtered = and_true (is_filtered tables text_table e) _ f in (
+      component_no_float (kind_in e) tables text_table e n refl members.0 placed.0 weighted.0 filtered.0,
+      components_no_float tables text_table es n members.1 placed.1 weighted.1 filtered.1,
+    )
 
 -- ---- the method
 
@@ -274,7 +291,8 @@ method_no_float : (d : Data) (s : MethodSpec) → method_in d ≡ Some s → NoF
 method_no_float d s e =
     let steps = method-steps d s e in
     let m = steps.0 in
-    let named : text_at (codes "kind") m ≡ [] → ⊥ = λ none. (let is : method_of_kind [] m ≡ Some s = subst (λ (t : List ℕ). method_of_kind t m ≡ Some s) none steps.2 in cc) in
+    let of_kind = λ (t : List ℕ). method_of_kind t m ≡ Some s in
+    let named : text_at (codes "kind") m ≡ [] → ⊥ = λ none. (let is : method_of_kind [] m ≡ Some s = subst of_kind none steps.2 in cc) in
     NoFloatAt-is d (codes "method") m steps.1 (by_kind (text_at (codes "kind") m) m (NoFloatAt-text m (codes "kind") named) s steps.2)
 
 -- ---- the whole value
@@ -283,7 +301,8 @@ divisor_no_float : (d : Data) (n : ℤ) → divisor_in d ≡ Some n → NoFloatA
 unfolding divisor_in
 divisor_no_float d n e = NoFloatAt-i64 d (codes "divisor") _ (and_then-some (whole_at (codes "divisor") d) _ n e).1
 
-pub schema_no_float : (d : Data) (p : ℕ × ℕ) (n : ℤ) (m : MethodSpec) → table_fault d ≡ None → text_in d ≡ Some p → component_fault (tables_in d) p.0 d ≡ None → divisor_in d ≡ Some n
+pub schema_no_float : (d : Data) (p : ℕ × ℕ) (n : ℤ) (m : MethodSpec) → table_fault d ≡ None → text_in d ≡ Some p
+    → component_fault (tables_in d) p.0 d ≡ None → divisor_in d ≡ Some n
     → method_in d ≡ Some m → has_float d ≡ false
 unfolding are_different
 schema_no_float d p n m e t f g h =
@@ -291,13 +310,16 @@ schema_no_float d p n m e t f g h =
     let components = ComponentsHold-from_none (tables_in d) p.0 d f in
     let table_list = and_true (is_list_at (codes "tables") 1 8 d) _ tables.tables in
     let component_list = and_true (is_list_at (codes "components") 0 8 d) _ components.listed in
+    let of_components = components_no_float (tables_in d) p.0 _ tables.named component_list.1 components.placed components.weighted components.filtered in
+    let of_tables = tables_no_float _ table_list.1 tables.columns tables.named in
+    let of_text = text_no_float d p tables.named (TextSteps-from_some d p t) in
     object_no_float d (codes "components" ∷ codes "divisor" ∷ codes "method" ∷ codes "tables" ∷ codes "text" ∷ []) tables.parts refl (
-      listed (codes "components") 0 8 d component_list.0 (components_no_float (tables_in d) p.0 _ tables.named component_list.1 components.placed components.weighted components.filtered),
+      listed (codes "components") 0 8 d component_list.0 of_components,
       (
         divisor_no_float d n g,
         (
           method_no_float d m h,
-          (listed (codes "tables") 1 8 d table_list.0 (tables_no_float _ table_list.1 tables.columns tables.named), (text_no_float d p tables.named (TextSteps-from_some d p t), tt)),
+          (listed (codes "tables") 1 8 d table_list.0 of_tables, (of_text, tt)),
         ),
       ),
     )

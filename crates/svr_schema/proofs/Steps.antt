@@ -1,5 +1,6 @@
 -- What tests and steps that passed tell.
-use Rattle.std.proofs.Common.{◌≡◌, ◌≤◌, ◌&&◌, ℕ, Bool, true, false, List, [], ◌∷◌, get_or, nat_le, Option, Some, None, is_some, option_and_then, option_map, position, ℤ, ◌≤ℤ◌, T, subst, refl, sym, arith}
+use Rattle.std.proofs.Common.{◌≡◌, ◌≤◌, ◌&&◌, ℕ, Bool, true, false, List, [], ◌∷◌, get_or, nat_le, Option, Some}
+use Rattle.std.proofs.Common.{None, is_some, option_and_then, option_map, position, ℤ, ◌≤ℤ◌, T, subst, refl, sym, arith}
 use Rattle.std.proofs.lemmas.Bool.{false≢true}
 use Rattle.std.proofs.lemmas.Bool.Decides.{nat_tests}
 use Rattle.std.proofs.lemmas.List.Quantifiers.{position-Some}

@@ -34,13 +34,15 @@ TablesHold-from_none d e =
     record { parts = one.0; tables = two.0; columns = three.0; named = four.0; names_differ = five.0; columns_differ = six.0; ids = seven.0 }
 
 -- the elements of a list that has so many
-pub is_list_at-length : (name : List ℕ) (low high : ℕ) (d : Data) → is_list_at name low high d ≡ true → (low ≤ length (elements_at name d)) × (length (elements_at name d) ≤ high)
+pub is_list_at-length : (name : List ℕ) (low high : ℕ) (d : Data) → is_list_at name low high d ≡ true
+    → (low ≤ length (elements_at name d)) × (length (elements_at name d) ≤ high)
 is_list_at-length name low high d e =
     let upper = and_true _ _ e in
     let lower = and_true _ _ upper.0 in
     (nat_le-true low _ lower.1, nat_le-true _ high upper.1)
 
-table_holds : (e : Data) → has_columns e ≡ true → is_named (table_in e) ≡ true → columns_differ (table_in e) ≡ true → begins_with_id (table_in e).columns ≡ true → IsTable (table_in e)
+table_holds : (e : Data) → has_columns e ≡ true → is_named (table_in e) ≡ true → columns_differ (table_in e) ≡ true
+    → begins_with_id (table_in e).columns ≡ true → IsTable (table_in e)
 table_holds e cols named differ ids =
     let count = is_list_at-length (codes "columns") 1 8 e (and_true _ _ cols).0 in
     let names = and_true _ _ named in

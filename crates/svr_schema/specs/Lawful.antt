@@ -1,5 +1,6 @@
 -- The numbers, names, kinds and ranges of a schema that was accepted.
-use Rattle.std.specs.Prelude.{◌≡◌, ◌≢◌, ◌≤◌, ℕ, ◌&&◌, ◌||◌, ◌==◌, not, Bool, true, false, ℤ, pos, neg_ℤ, List, [], ◌∷◌, length, map, nat_lt, slice_get, Option, Some, None, codes, MatchBool, ⊤}
+use Rattle.std.specs.Prelude.{◌≡◌, ◌≢◌, ◌≤◌, ℕ, ◌&&◌, ◌||◌, ◌==◌, not, Bool, true, false, ℤ, pos, neg_ℤ}
+use Rattle.std.specs.Prelude.{List, [], ◌∷◌, length, map, nat_lt, slice_get, Option, Some, None, codes, MatchBool, ⊤}
 use Rattle.std.specs.Int.Signed.{◌≤ℤ◌}
 use Rattle.std.specs.Char.{is_ascii_lowercase, is_ascii_digit}
 use Rattle.std.specs.List.{All, list_all, list_any}

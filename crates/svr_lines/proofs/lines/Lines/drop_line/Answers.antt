@@ -1,6 +1,8 @@
-use Rattle.std.proofs.Common.{◌+◌, ◌≤◌, [], ◌∷◌, ◌++◌, length, take, refl, ap, sym, ◌∙◌, inl, inr, subst, arith, Ok, append-nil, append_assoc, length-append}
+use Rattle.std.proofs.Common.{◌+◌, ◌≤◌, [], ◌∷◌, ◌++◌, length, take, refl, ap, sym, ◌∙◌}
+use Rattle.std.proofs.Common.{inl, inr, subst, arith, Ok, append-nil, append_assoc, length-append}
 use Rattle.svr_lines.specs.Lines.{IsUnbroken}
-use Rattle.svr_lines.proofs.Stream.{Reads-none, IsUnbroken-append, IsUnbroken-all, IsUnbroken-more, IsUnbroken-none, IsUnbroken-take, take-feed, passes_all, passes_front, stops_unbroken, on_err}
+use Rattle.svr_lines.proofs.Stream.{Reads-none, IsUnbroken-append, IsUnbroken-all, IsUnbroken-more, IsUnbroken-none}
+use Rattle.svr_lines.proofs.Stream.{IsUnbroken-take, take-feed, passes_all, passes_front, stops_unbroken, on_err}
 use Rattle.svr_lines.proofs.lines.Lines.drop_line.Goals as goal
 
 pub loop-self-init : goal.loop-self-init
