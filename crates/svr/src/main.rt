@@ -1,10 +1,15 @@
 //! `svr`: serves requests from standard input, with replies to standard output.
 #![tactic(auto)]
 
+ghost use Rattle.std.specs.Prelude.{map, string_bytes};
+ghost use Rattle.std.specs.Process.{exit_status};
+ghost use Rattle.svr_serve.specs.Program.{HasStatus, Writes, streams};
+
 use std::alloc::Global;
 use std::process::ExitCode;
 use std::rt::Env;
 use std::{env, io};
+use svr_edge::{Sink, Source};
 use svr_host::{StdSink, StdSource};
 use svr_serve::svr;
 
@@ -17,6 +22,23 @@ fn read_words(rt: &(impl Env + AllocGlobal)) -> io::Result<Vec<String>> {
     Ok(words)
 }
 
+/// Runs the program, and gives the code that the process ends with: the program's status.
+fn run<S: Source, O: Sink>(
+    alloc: Global,
+    words: &[String],
+    input: &mut S,
+    output: &mut O,
+) -> ExitCode
+    ensures writes { Writes (exit_status result)
+        (streams (S.left input.old) (S.faults input.old) (O.taken output.old) (O.sent output.old) (O.faults output.old))
+        (streams (S.left input.new) (S.faults input.new) (O.taken output.new) (O.sent output.new) (O.faults output.new)) }
+    ensures status { HasStatus (map string_bytes words.now) (exit_status result)
+        (streams (S.left input.old) (S.faults input.old) (O.taken output.old) (O.sent output.old) (O.faults output.old))
+        (streams (S.left input.new) (S.faults input.new) (O.taken output.new) (O.sent output.new) (O.faults output.new)) }
+{
+    ExitCode::from(svr(alloc, words, input, output))
+}
+
 fn main(rt: HostRuntime) -> ExitCode {
     // Words that can't be read have no reading, as no words have none.
     let words = match read_words(&rt) {
@@ -25,5 +47,5 @@ fn main(rt: HostRuntime) -> ExitCode {
     };
     let mut input = StdSource::new(&rt);
     let mut output = StdSink::new(&rt);
-    ExitCode::from(svr(rt.alloc(), words.as_slice(), &mut input, &mut output))
+    run(rt.alloc(), words.as_slice(), &mut input, &mut output)
 }

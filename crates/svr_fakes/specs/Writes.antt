@@ -5,10 +5,11 @@ use Rattle.svr_edge.specs.declared.source.Failed.{Failed}
 use Rattle.svr_edge.specs.Causes.{one_more}
 use Rattle.svr_fakes.specs.Calls.{is_listed}
 
--- the bytes that were taken, the most that one write takes, the numbers of the calls that fail, and how many writes,
--- flushes and faults there were
+-- the bytes that were taken, those of them that were sent on, the most that one write takes, the numbers of the calls
+-- that fail, and how many writes, flushes and faults there were
 pub record SinkState : Type 0 where
   pub taken : List ℕ
+  pub sent : List ℕ
   pub step : ℕ
   pub fail : List ℕ
   pub writes : ℕ
@@ -17,7 +18,7 @@ pub record SinkState : Type 0 where
 
 -- a sink that has taken nothing
 abbrev pub new_sink : ℕ → List ℕ → SinkState
-new_sink step fail = record { taken = []; step = step; fail = fail; writes = 0; flushes = 0; faults = 0 }
+new_sink step fail = record { taken = []; sent = []; step = step; fail = fail; writes = 0; flushes = 0; faults = 0 }
 
 -- the next write fails, also where memory is not wanting
 abbrev pub write_fails : SinkState → Bool
@@ -50,4 +51,4 @@ abbrev pub after_flush : SinkState → SinkState
 after_flush s =
     if flush_fails s
     then record s { flushes = one_more s.flushes; faults = one_more s.faults }
-    else record s { flushes = one_more s.flushes }
+    else record s { sent = s.taken; flushes = one_more s.flushes }

@@ -1,4 +1,4 @@
-ghost use Rattle.std.specs.Prelude.{◌≡◌, ◌+◌, ◌^◌, ◌<◌, Some, IfOk, length};
+ghost use Rattle.std.specs.Prelude.{◌≡◌, ◌+◌, ◌^◌, ◌<◌, Some, IfOk, OnOk, length};
 ghost use Rattle.std.specs.Io.{WritesAtMost};
 ghost use Rattle.std.specs.Io.KnownBytes.{Keeps, WriteAppends};
 ghost use Rattle.svr_edge.specs.Causes.{HasCause};
@@ -23,10 +23,13 @@ fn lists_flush(fail: &[u64], number: u64) -> bool
 }
 
 /// A sink that keeps what it takes. A write takes at most `step` bytes, and the writes whose numbers, from 1, were
-/// listed fail, as do the flushes whose numbers plus 2^32 were. Want of memory is a write that fails too.
+/// listed fail, as do the flushes whose numbers plus 2^32 were; a failed flush sends nothing. Want of memory is a write
+/// that fails too.
 #[derive(Drop)]
 pub struct MemSink {
     taken: Vec<u8>,
+    /// How many of the bytes were sent on.
+    sent: usize,
     step: u32,
     fail: Vec<u64>,
     writes: u64,
@@ -35,14 +38,14 @@ pub struct MemSink {
 }
 
 impl Model for MemSink {
-    ghost use Rattle.std.specs.Prelude.{◌<◌};
+    ghost use Rattle.std.specs.Prelude.{◌<◌, ◌≤◌, length, take};
     ghost use Rattle.svr_fakes.specs.Writes.{SinkState};
 
     ghost Value = { SinkState };
 
-    ghost view = { λ s. record { taken = s.taken.items; step = s.step; fail = s.fail.items; writes = s.writes; flushes = s.flushes; faults = s.faults } };
+    ghost view = { λ s. record { taken = s.taken.items; sent = take s.sent s.taken.items; step = s.step; fail = s.fail.items; writes = s.writes; flushes = s.flushes; faults = s.faults } };
 
-    ghost invariant = { λ s. 0 < s.step };
+    ghost invariant = { λ s. (0 < s.step) × (s.sent ≤ length s.taken.items) };
 }
 
 impl MemSink {
@@ -53,6 +56,7 @@ impl MemSink {
     {
         MemSink {
             taken: Vec::new(*fail.allocator()),
+            sent: 0,
             step,
             fail,
             writes: 0,
@@ -67,10 +71,19 @@ impl MemSink {
     {
         self.taken.as_slice()
     }
+
+    /// Those of them that were sent on.
+    pub fn sent(&self) -> &[u8]
+        ensures { result.now ≡ self.now.sent }
+    {
+        &self.taken[..self.sent]
+    }
 }
 
 impl Sink for MemSink {
     ghost taken = { λ s. Some s.taken };
+
+    ghost sent = { λ s. Some s.sent };
 
     ghost faults = { λ s. s.faults };
 
@@ -78,6 +91,7 @@ impl Sink for MemSink {
         ensures bound { WritesAtMost result piece.now }
         ensures progress { 0 < length piece.now → IfOk result (λ count. 0 < count) }
         ensures bytes { WriteAppends (Some self.old.taken) (Some self.new.taken) result piece.now }
+        ensures sent { Some self.new.sent ≡ Some self.old.sent }
         ensures cause { HasCause self.old.faults self.new.faults result }
         ensures answer { WriteAnswers self.old (length piece.now) result }
         ensures next { self.new ≡ after_write self.old piece.now result }
@@ -94,6 +108,7 @@ impl Sink for MemSink {
 
     fn flush(&mut self) -> Result<(), Failed>
         ensures bytes { Keeps (Some self.old.taken) (Some self.new.taken) }
+        ensures sent { OnOk result (Some self.new.sent ≡ Some self.new.taken) }
         ensures cause { HasCause self.old.faults self.new.faults result }
         ensures answer { result ≡ flush_answer self.old }
         ensures next { self.new ≡ after_flush self.old }
@@ -103,6 +118,7 @@ impl Sink for MemSink {
             raise(&mut self.faults);
             return Err(Failed);
         }
+        self.sent = self.taken.len();
         Ok(())
     }
 }

@@ -30,6 +30,7 @@ impl<'a, R: Print> StdSink<'a, R> {
     pub fn new(rt: &'a R) -> StdSink<'a, R>
         ensures faults { result ≡ 0 }
         ensures tells_nothing { ⟦<StdSink<'a, R> as Sink>⟧.taken result ≡ None }
+        ensures tells_no_sending { ⟦<StdSink<'a, R> as Sink>⟧.sent result ≡ None }
     {
         StdSink { rt, faults: 0 }
     }
@@ -37,6 +38,8 @@ impl<'a, R: Print> StdSink<'a, R> {
 
 impl<'a, R: Print> Sink for StdSink<'a, R> {
     ghost taken = { λ _. None };
+
+    ghost sent = { λ _. None };
 
     ghost faults = { λ s. s };
 

@@ -2,7 +2,7 @@
 use Rattle.std.proofs.Common.{◌≡◌, ℕ, ◌+◌, ◌-◌, ◌≤◌, List, ◌++◌, length, take, drop, get_or, sym, ap, ap₂, ◌∙◌, arith}
 use Rattle.std.proofs.lemmas.List.{drop-take, take-take, take-append-drop, drop-drop, length-take, length-take-le, length-drop, get_or-drop}
 use Rattle.std.specs.List.{slice_range}
-use Rattle.svr_lines.specs.Feeds.{NoFeed, FirstFeed}
+use Rattle.svr_lines.specs.Layout.Feeds.{NoFeed, FirstFeed}
 
 pub drop-slice_range : {X : Type 0} (xs : List X) (i j n : ℕ) → i ≤ j → n ≤ length (slice_range xs i j)
     → drop n (slice_range xs i j) ≡ slice_range xs (i + n) j

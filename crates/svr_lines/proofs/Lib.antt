@@ -2,4 +2,5 @@ pub mod Feeds
 pub mod Parts
 pub mod Skips
 pub mod Splits
+pub mod SoFar
 pub mod Stream

@@ -3,9 +3,10 @@ use Rattle.std.proofs.Common.{◌≡◌, ℕ, ◌-◌, ◌<◌, ◌≤◌, min, 
 use Rattle.std.proofs.Common.{length, take, refl, sym, ap, ◌∙◌, arith, append-nil, length-append, Option}
 use Rattle.std.proofs.lemmas.List.{length-take-le, drop_all}
 use Rattle.std.proofs.KnownBytes.{Consumes-nil}
-use Rattle.svr_lines.specs.Pieces.{StopsInBlock}
+use Rattle.svr_lines.specs.Stops.{StopsInBlock}
 use Rattle.svr_lines.specs.Reading.{Reading, Reads}
-use Rattle.svr_lines.specs.Steps.{Passes, TakesPart}
+use Rattle.svr_lines.specs.Layout.Steps.{Passes}
+use Rattle.svr_lines.proofs.SoFar.{TakesPart}
 use Rattle.svr_lines.proofs.Stream.{Reads-then, Reads-as, passes_front, taken_bytes-reads}
 
 nothing_kept : (kept : Bool) → ◌≡◌ {A = List ℕ} [] (cond kept [] [])

@@ -6,9 +6,11 @@ use Rattle.std.proofs.KnownBytes.{Consumes-trans}
 use Rattle.svr_lines.specs.declared.lines.Piece.{Piece}
 use Rattle.svr_lines.specs.declared.lines.Piece.TheVariants as piece
 use Rattle.svr_lines.specs.Lines.{IsUnbroken, IsWholeLines, is_skipped, pieces_of, whole_part}
-use Rattle.svr_lines.specs.Pieces.{HandsOut, TakesPiece, NextPiece, StopsInLine}
+use Rattle.svr_lines.specs.Pieces.{HandsOut, TakesPiece, NextPiece}
+use Rattle.svr_lines.specs.Stops.{StopsInLine}
 use Rattle.svr_lines.specs.Reading.{Reading, Reads, KnowsEnd}
-use Rattle.svr_lines.specs.Steps.{EndsLine, TakesLine, StopsUnbroken, SkipsLines, is_blank_piece}
+use Rattle.svr_lines.specs.Layout.Steps.{EndsLine, TakesLine, StopsUnbroken, is_blank_piece}
+use Rattle.svr_lines.proofs.SoFar.{SkipsLines}
 use Rattle.svr_lines.proofs.Splits.{IsWholeLines-line, is_skipped-long, is_skipped-short, pieces_of-whole, pieces_of-line, pieces_of-passed}
 use Rattle.svr_lines.proofs.Splits.{pieces_of-last, pieces_of-last_passed, pieces_of-nil, whole_part-whole, whole_part-unbroken}
 use Rattle.svr_lines.proofs.Stream.{Reads-none, Reads-then, taken_bytes-reads}

@@ -7,14 +7,14 @@ use Rattle.std.proofs.Math.Seq.{drop-length}
 use native.Mathlib.Decide.{dec_lt}
 use Prim.{yes, no}
 use Rattle.std.specs.Io.KnownBytes.{Consumes, Keeps}
-use Rattle.svr_lines.specs.Feeds.{NoFeed}
+use Rattle.svr_lines.specs.Layout.Feeds.{NoFeed}
 use Rattle.svr_lines.specs.Lines.{IsUnbroken}
 use Rattle.svr_lines.specs.Reading.{Reading, Reads, taken_bytes}
 use Rattle.svr_lines.specs.Pieces.{IsLast}
-use Rattle.svr_lines.specs.Feeds.{FirstFeed}
+use Rattle.svr_lines.specs.Layout.Feeds.{FirstFeed}
 use Rattle.svr_lines.specs.declared.lines.Piece.{Piece}
 use Rattle.svr_lines.specs.declared.lines.Piece.TheVariants as piece
-use Rattle.svr_lines.specs.Steps.{Passes, TakesLine, StopsUnbroken}
+use Rattle.svr_lines.specs.Layout.Steps.{Passes, TakesLine, StopsUnbroken}
 
 -- ---- from places to parts
 

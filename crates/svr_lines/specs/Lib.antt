@@ -1,6 +1,5 @@
-pub mod Buffer
-pub mod Feeds
+pub mod Layout
 pub mod Lines
 pub mod Pieces
 pub mod Reading
-pub mod Steps
+pub mod Stops

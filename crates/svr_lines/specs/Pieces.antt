@@ -1,13 +1,13 @@
 -- What a reader of lines hands out.
-use Rattle.std.specs.Prelude.{◌≡◌, ◌⊎◌, ◌<◌, ◌≤◌, ℕ, ◌+◌, true, false, List, [], ◌∷◌}
+use Rattle.std.specs.Prelude.{◌≡◌, ◌⊎◌, ◌<◌, ◌≤◌, ℕ, true, false, List, [], ◌∷◌}
 use Rattle.std.specs.Prelude.{◌++◌, length, Option, Some, None, ⊤, ◌==◌, if◌then◌else◌}
 use Rattle.std.specs.Io.KnownBytes.{Consumes, IsAtEnd}
 use Rattle.svr_lines.specs.declared.lines.Piece.{Piece}
 use Rattle.svr_lines.specs.declared.lines.Piece.TheVariants as piece
 use Rattle.svr_lines.specs.declared.lines.BlockEnd.{BlockEnd}
 use Rattle.svr_lines.specs.declared.lines.BlockEnd.TheVariants as block
-use Rattle.svr_lines.specs.Lines.{IsUnbroken, IsWholeLines, is_skipped, pieces_of, whole_part}
-use Rattle.svr_lines.specs.Reading.{Reading, taken_bytes}
+use Rattle.svr_lines.specs.Lines.{IsUnbroken, IsWholeLines, is_skipped, pieces_of}
+use Rattle.svr_lines.specs.Reading.{Reading}
 
 -- lines that are passed over, and then a line that isn't; the end is LF, or nothing at the end of the input
 pub record IsPiece (gone line end : List ℕ) : Type 0 where
@@ -43,13 +43,6 @@ NextPiece piece.TooLong text (Some before) (Some after) = (line : List ℕ) × (
     × (pieces_of before ≡ line ∷ pieces_of after)
 NextPiece piece.End text (Some before) (Some after) = pieces_of before ≡ []
 
--- no piece could be handed out: the bytes that were taken and aren't handed out hold no whole line that isn't passed over
-pub record StopsInLine (before after : Option (List ℕ)) (old new : Reading) (bytes : List ℕ) : Type 0 where
-  pub consumed : Consumes before after bytes
-  pub taken : taken_bytes new ≡ taken_bytes old + length bytes
-  pub limit : new.limit ≡ old.limit
-  pub none : pieces_of (whole_part (old.ahead ++ bytes)) ≡ []
-
 -- how a block of so many bytes ended, which are the gone ones
 abbrev pub TakesBlock : BlockEnd → ℕ → List ℕ → Reading → Option (List ℕ) → Type 0
 TakesBlock block.Whole size gone new left = (length gone ≡ size) × (size ≤ 8388608) × (new.block ≡ gone)
@@ -59,10 +52,3 @@ TakesBlock block.Cut size gone new left = (length gone < size) × IsLast new lef
 -- how a block of so many bytes ends that begins at the end of the input
 abbrev pub block_at_end : ℕ → BlockEnd
 block_at_end size = if size == 0 then block.Whole else block.Cut
-
--- the bytes that were taken and aren't handed out hold no whole block of so many bytes
-pub record StopsInBlock (before after : Option (List ℕ)) (old new : Reading) (size : ℕ) (bytes : List ℕ) : Type 0 where
-  pub consumed : Consumes before after bytes
-  pub taken : taken_bytes new ≡ taken_bytes old + length bytes
-  pub limit : new.limit ≡ old.limit
-  pub none : length (old.ahead ++ bytes) < size

@@ -3,7 +3,7 @@ ghost use Rattle.std.specs.List.{slice_range, list_all};
 ghost use Rattle.std.specs.Io.KnownBytes.{Consumes, IsAtEnd, Keeps};
 ghost use Rattle.svr_edge.specs.Causes.{Rose};
 ghost use Rattle.svr_lines.specs.Lines.{is_blank};
-ghost use Rattle.svr_lines.specs.Feeds.{NoFeed, FirstFeed};
+ghost use Rattle.svr_lines.specs.Layout.Feeds.{NoFeed, FirstFeed};
 
 use crate::lines::LINE_BYTES;
 use memchr::memchr;

@@ -1,11 +1,11 @@
 ghost use Rattle.std.specs.Prelude.{◌≡◌, ◌≢◌, ℕ, ◌+◌, ◌-◌, ◌<◌, ◌≤◌, [], true, false, List, take, length, Ok, IfOk, OnOk, OnErr, IfSome, IfNone, IsErrOf};
 ghost use Rattle.std.specs.Io.KnownBytes.{IsAtEnd, prepend_known};
-ghost use Rattle.svr_edge.specs.Causes.{Rose};
-ghost use Rattle.svr_lines.specs.Feeds.{NoFeed, FirstFeed};
+ghost use Rattle.svr_lines.specs.Layout.Feeds.{NoFeed, FirstFeed};
 ghost use Rattle.svr_lines.specs.Lines.{IsUnbroken};
-ghost use Rattle.svr_lines.specs.Pieces.{IsLast, TakesPiece, NextPiece, StopsInLine};
+ghost use Rattle.svr_lines.specs.Pieces.{IsLast, TakesPiece, NextPiece};
 ghost use Rattle.svr_lines.specs.Reading.{new_reading, taken_bytes, KnowsEnd, Reads};
-ghost use Rattle.svr_lines.specs.Steps.{Passes, Fills, EndsLine, TakesLine, StopsUnbroken, is_blank_piece};
+ghost use Rattle.svr_lines.specs.Stops.{HasStopCauses, StopsInLine};
+ghost use Rattle.svr_lines.specs.Layout.Steps.{Passes, Fills, EndsLine, TakesLine, StopsUnbroken, is_blank_piece};
 
 mod blocks;
 
@@ -70,7 +70,7 @@ impl Model for Lines {
 
     ghost Value = { Reading };
 
-    ghost use Rattle.svr_lines.specs.Buffer.{reading, IsInBuffer};
+    ghost use Rattle.svr_lines.specs.Layout.Buffer.{reading, IsInBuffer};
 
     ghost view = { reading };
 
@@ -176,13 +176,9 @@ impl Lines {
             × Fills (S.left input.old) (S.left input.new) self.old self.new result bytes }
         ensures block { self.new.block ≡ self.old.block }
         ensures ended { self.new.ended ≡ self.old.ended }
-        ensures few { taken_bytes self.new ≤ self.new.limit }
         ensures end { result ≡ Ok 0 → IsAtEnd (S.left input.new) }
         ensures before_limit { result ≡ Ok 0 → taken_bytes self.new < self.new.limit }
-        ensures later { S.faults input.old ≤ S.faults input.new }
-        ensures input { IsErrOf result InputStop.Input
-            → Rose (S.faults input.old) (S.faults input.new) × (taken_bytes self.new < self.new.limit) }
-        ensures bytes { IsErrOf result InputStop.Bytes → taken_bytes self.new ≡ self.new.limit }
+        ensures causes { HasStopCauses (S.faults input.old) (S.faults input.new) self.new result }
     {
         let ahead = self.end - self.start;
         let left = self.limit - (self.handed + ahead as u64);
@@ -212,12 +208,8 @@ impl Lines {
         ensures end { result ≡ Ok 0 → IsLast self.new (S.left input.new) }
         ensures open_end { IfOk result (λ count. 0 < count → self.new.ended ≡ false) }
         ensures after_end { self.old.ended ≡ true → result ≡ Ok 0 }
-        ensures few { taken_bytes self.new ≤ self.new.limit }
         ensures before_limit { self.old.ended ≡ false → result ≡ Ok 0 → taken_bytes self.new < self.new.limit }
-        ensures later { S.faults input.old ≤ S.faults input.new }
-        ensures input { IsErrOf result InputStop.Input
-            → Rose (S.faults input.old) (S.faults input.new) × (taken_bytes self.new < self.new.limit) }
-        ensures bytes { IsErrOf result InputStop.Bytes → taken_bytes self.new ≡ self.new.limit }
+        ensures causes { HasStopCauses (S.faults input.old) (S.faults input.new) self.new result }
     {
         if self.has_ended() {
             return Ok(0);
@@ -274,12 +266,8 @@ impl Lines {
             × EndsLine gone line self.new (S.left input.new)) }
         ensures stop { OnErr result ((bytes : List ℕ)
             × StopsUnbroken (S.left input.old) (S.left input.new) self.old self.new bytes) }
-        ensures few { taken_bytes self.new ≤ self.new.limit }
         ensures before_limit { OnOk result (self.new.ended ≡ true → taken_bytes self.new < self.new.limit) }
-        ensures later { S.faults input.old ≤ S.faults input.new }
-        ensures input { IsErrOf result InputStop.Input
-            → Rose (S.faults input.old) (S.faults input.new) × (taken_bytes self.new < self.new.limit) }
-        ensures bytes { IsErrOf result InputStop.Bytes → taken_bytes self.new ≡ self.new.limit }
+        ensures causes { HasStopCauses (S.faults input.old) (S.faults input.new) self.new result }
     {
         loop {
             let count = self.ahead();
@@ -302,12 +290,8 @@ impl Lines {
             × TakesLine piece gone self.new (S.left input.new)) }
         ensures stop { OnErr result ((bytes : List ℕ)
             × StopsUnbroken (S.left input.old) (S.left input.new) self.old self.new bytes) }
-        ensures few { taken_bytes self.new ≤ self.new.limit }
         ensures before_limit { OnOk result (self.new.ended ≡ true → taken_bytes self.new < self.new.limit) }
-        ensures later { S.faults input.old ≤ S.faults input.new }
-        ensures input { IsErrOf result InputStop.Input
-            → Rose (S.faults input.old) (S.faults input.new) × (taken_bytes self.new < self.new.limit) }
-        ensures bytes { IsErrOf result InputStop.Bytes → taken_bytes self.new ≡ self.new.limit }
+        ensures causes { HasStopCauses (S.faults input.old) (S.faults input.new) self.new result }
     {
         let mut clean = 0;
         loop {
@@ -354,14 +338,9 @@ impl Lines {
 
         // Each line takes at least a byte, and no more are taken than may be, which is tested before the end.
         ensures progress { IfOk result (λ piece. piece ≢ Piece.End → self.old.handed < self.new.handed) }
-        ensures few { taken_bytes self.new ≤ self.new.limit }
         ensures before_limit { OnOk result (self.old.ended ≡ false → self.new.ended ≡ true
             → taken_bytes self.new < self.new.limit) }
-
-        ensures input { IsErrOf result InputStop.Input
-            → Rose (S.faults input.old) (S.faults input.new) × (taken_bytes self.new < self.new.limit) }
-        ensures bytes { IsErrOf result InputStop.Bytes → taken_bytes self.new ≡ self.new.limit }
-        ensures later { S.faults input.old ≤ S.faults input.new }
+        ensures causes { HasStopCauses (S.faults input.old) (S.faults input.new) self.new result }
     {
         while !self.has_ended() {
             let piece = self.next_line(input)?;

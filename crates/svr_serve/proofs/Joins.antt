@@ -3,14 +3,11 @@ use Rattle.std.proofs.Common.{◌≡◌, ◌⊎◌, inl, inr, ℕ, false, ◌||�
 use Rattle.std.specs.List.{filter_map, list_any}
 use Rattle.std.proofs.lemmas.List.Elements.{filter_map-append}
 use Rattle.std.proofs.lemmas.List.Folds.{list_any-append}
-use Rattle.svr_lines.proofs.Splits.{pieces_of-nil}
 use Rattle.svr_request.specs.Requests.{Submitted}
 use Rattle.svr_serve.specs.Input.{ends_in_block, is_cut, last, parts_of, request_in, requests_of, whole, whole_in, whole_requests}
-use Rattle.svr_serve.specs.Serving.{HoldsWhole, IsWhole}
-use Rattle.svr_serve.proofs.Parts.{parts_of-none}
-
-parts_of-nil : parts_of [] ≡ []
-parts_of-nil = parts_of-none [] pieces_of-nil
+use Rattle.svr_serve.specs.Layout.{HoldsWhole}
+use Rattle.svr_serve.proofs.SoFar.{IsWhole}
+use Rattle.svr_serve.proofs.Parts.{parts_of-nil}
 
 pub requests_of-none : (rest : List ℕ) → rest ≡ [] → requests_of rest ≡ []
 requests_of-none rest none = ap requests_of none ∙ ap (filter_map request_in) parts_of-nil

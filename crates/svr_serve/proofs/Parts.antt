@@ -1,15 +1,17 @@
 -- The parts of a text, line by line.
-use Rattle.std.proofs.Common.{◌≡◌, ℕ, zero, suc, ◌≤◌, ◌-◌, inl, inr, true, false, List, [], ◌∷◌, ◌++◌, length, drop, nat_lt}
-use Rattle.std.proofs.Common.{if◌then◌else◌, refl, sym, subst, ap, ◌∙◌, arith, append_assoc, append-nil, length-append, length-drop}
+use Rattle.std.proofs.Common.{◌≡◌, ℕ, zero, suc, ◌+◌, ◌-◌, ◌<◌, inl, inr, true, false, List, [], ◌∷◌, ◌++◌, length, drop, nat_lt}
+use Rattle.std.proofs.Common.{if◌then◌else◌, refl, sym, subst, ap, ◌∙◌, arith, append_assoc, append-nil, length-append}
 use Rattle.std.proofs.lemmas.Bool.{cases_eq}
 use Rattle.std.proofs.lemmas.Bool.Decides.{nat_tests}
 use Rattle.std.proofs.lemmas.List.{drop_all}
+use Rattle.std.proofs.Math.Nat.{add-zero}
 use Rattle.std.specs.List.{filter_map}
 use Rattle.svr_lines.proofs.Splits.{pieces_of-last, pieces_of-line, pieces_of-passed, whole_part-whole}
 use Rattle.svr_lines.proofs.Stream.{IsUnbroken-append}
 use Rattle.svr_lines.specs.Lines.{IsUnbroken, IsWholeLines, is_skipped, pieces_of, whole_part}
 use Rattle.svr_lines.specs.Pieces.{IsPiece}
-use Rattle.svr_serve.specs.Input.{FirstLine, Part, whole, last, cut, block_size, first_line, parts_from, parts_of, parts_with, submitted, whole_in, whole_requests}
+use Rattle.svr_serve.specs.Input.{FirstLine, Part, whole, last, cut, block_size, first_line, line_bytes, parts_after, parts_of, parts_with, submitted}
+use Rattle.svr_serve.specs.Input.{whole_in, whole_requests}
 
 -- the part that begins with a whole line, and those of the text behind its block
 abbrev pub parts_behind : List ℕ → List ℕ → List Part
@@ -51,47 +53,68 @@ unfolding first_line
 first_line-last [] u = refl
 first_line-last (b ∷ line) u = grind (arith, nat_tests, first_line-last line u.1)
 
--- the text behind the first line is shorter, if there is a byte
-fewer_behind : (text : List ℕ) → length (first_line text).behind ≤ length text - 1
-fewer_behind = by_lines (λ text. length (first_line text).behind ≤ length text - 1)
-    (λ line u. omega (arith, ap (λ f. length f.behind) (first_line-last line u)))
-    (λ line rest u h. omega (arith, ap (λ f. length f.behind) (first_line-line line rest u), length-append line (10 ∷ rest)))
+-- ---- the parts behind some bytes
 
--- ---- each line takes a byte at least
+parts_after-drop : (n : ℕ) (text : List ℕ) → parts_after n text ≡ parts_of (drop n text)
+unfolding parts_after parts_of
+parts_after-drop zero text = refl
+parts_after-drop (suc n) [] = refl
+parts_after-drop (suc n) (b ∷ bytes) = parts_after-drop n bytes
 
--- the functions are asked for no longer texts than the one behind the line
-parts_with-same : (f : FirstLine) (p q : List ℕ → List Part) → ((text : List ℕ) → length text ≤ length f.behind → p text ≡ q text)
-    → parts_with f p ≡ parts_with f q
+-- a byte less behind one more
+behind_byte : (b : ℕ) (bytes : List ℕ) (n : ℕ) → 0 < n → parts_after (n - 1) bytes ≡ parts_of (drop n (b ∷ bytes))
+behind_byte b bytes zero some = absurd (omega arith)
+behind_byte b bytes (suc n) some =
+    let less : suc n - 1 ≡ n = omega arith in
+    ap (λ k. parts_after k bytes) less ∙ parts_after-drop n bytes
+
+-- the function is asked for a byte at least
+parts_with-same : (f : FirstLine) (p q : ℕ → List Part) → ((n : ℕ) → 0 < n → p n ≡ q n) → parts_with f p ≡ parts_with f q
 parts_with-same f p q same =
-    let after = drop (block_size f.line) f.behind in
-    rw (same f.behind (omega arith), same after (omega (arith, length-drop (block_size f.line) f.behind))) refl
+    let line = same (line_bytes f) (omega arith) in
+    let block = same (line_bytes f + block_size f.line) (omega arith) in
+    rw (line, block) refl
 
--- as many lines as bytes are all
-parts_from-enough : (n m : ℕ) (text : List ℕ) → length text ≤ n → n ≤ m → parts_from m text ≡ parts_from n text
-unfolding parts_from first_line
-parts_from-enough zero zero text h k = refl
-parts_from-enough zero (suc m) [] h k = parts_from-enough zero m [] h (omega arith)
-parts_from-enough zero (suc m) (b ∷ text) h k = absurd (omega arith)
-parts_from-enough (suc n) zero text h k = absurd (omega arith)
-parts_from-enough (suc n) (suc m) text h k = parts_with-same (first_line text) (parts_from m) (parts_from n)
-    (λ more small. parts_from-enough n m more (omega (arith, fewer_behind text)) (omega arith))
+parts_of-step : (b : ℕ) (bytes : List ℕ)
+    → parts_of (b ∷ bytes) ≡ parts_with (first_line (b ∷ bytes)) (λ n. parts_of (drop n (b ∷ bytes)))
+unfolding parts_after parts_of
+parts_of-step b bytes = parts_with-same (first_line (b ∷ bytes)) (λ n. parts_after (n - 1) bytes)
+    (λ n. parts_of (drop n (b ∷ bytes))) (behind_byte b bytes)
 
-parts_of-step : (text : List ℕ) → parts_of text ≡ parts_with (first_line text) parts_of
-unfolding parts_from parts_of
-parts_of-step text = sym (parts_from-enough (length text) (suc (length text)) text (omega arith) (omega arith))
-    ∙ parts_with-same (first_line text) (parts_from (length text)) parts_of
-    (λ more small. parts_from-enough (length more) (length text) more (omega arith) (omega (arith, fewer_behind text)))
+pub parts_of-nil : parts_of [] ≡ []
+unfolding parts_after parts_of
+parts_of-nil = refl
 
 -- ---- the parts that begin with a line
 
+-- the first line of a text that has a byte, and the parts behind it and its block
+parts_of-first : (text : List ℕ) (f : FirstLine) → 0 < length text → first_line text ≡ f
+    → parts_of text ≡ parts_with f (λ n. parts_of (drop n text))
+parts_of-first [] f some is = absurd (omega arith)
+parts_of-first (b ∷ bytes) f some is = parts_of-step b bytes ∙ ap (λ g. parts_with g (λ n. parts_of (drop n (b ∷ bytes)))) is
+
+-- behind a line and its line feed
+drop_line : (line rest : List ℕ) (k : ℕ) → drop (length line + 1 + k) (line ++ 10 ∷ rest) ≡ drop k rest
+drop_line [] rest k =
+    let more : length {A = ℕ} [] + 1 + k ≡ suc k = omega arith in
+    ap (λ n. drop n (10 ∷ rest)) more
+drop_line (b ∷ line) rest k =
+    let more : length (b ∷ line) + 1 + k ≡ suc (length line + 1 + k) = omega arith in
+    ap (λ n. drop n (b ∷ line ++ 10 ∷ rest)) more ∙ drop_line line rest k
+
 parts_of-line : (line rest : List ℕ) → IsUnbroken line
     → parts_of (line ++ 10 ∷ rest) ≡ (if is_skipped line then parts_of rest else parts_behind line rest)
-parts_of-line line rest u = parts_of-step (line ++ 10 ∷ rest) ∙ ap (λ f. parts_with f parts_of) (first_line-line line rest u)
+parts_of-line line rest u =
+    let some : 0 < length (line ++ 10 ∷ rest) = omega (arith, length-append line (10 ∷ rest)) in
+    let feed = ap (λ n. drop n (line ++ 10 ∷ rest)) (sym (add-zero (length line + 1))) ∙ drop_line line rest 0 in
+    parts_of-first (line ++ 10 ∷ rest) _ some (first_line-line line rest u) ∙ rw (feed, drop_line line rest (block_size line)) refl
 
 parts_of-end : (line : List ℕ) → IsUnbroken line → parts_of line ≡ (if is_skipped line then [] else last_part line ∷ [])
-unfolding parts_from parts_of
-parts_of-end line u = parts_of-step line ∙ ap (λ f. parts_with f parts_of) (first_line-last line u)
-    ∙ rw (drop_all {X = ℕ} (block_size line) [] (omega arith)) (grind arith)
+parts_of-end [] u = parts_of-nil
+parts_of-end (b ∷ line) u =
+    let none = drop_all (length (b ∷ line) + 1) (b ∷ line) (omega arith) in
+    let no_block = drop_all (length (b ∷ line) + 1 + block_size (b ∷ line)) (b ∷ line) (omega arith) in
+    parts_of-first (b ∷ line) _ (omega arith) (first_line-last (b ∷ line) u) ∙ rw (none, no_block, parts_of-nil) (grind arith)
 
 -- ---- lines that are passed over
 

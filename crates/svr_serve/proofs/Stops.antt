@@ -6,6 +6,7 @@ use Rattle.std.specs.Io.KnownBytes.{Appends, Consumes, IsAtEnd}
 use Rattle.std.proofs.KnownBytes.{Appends-trans, Consumes-trans}
 use Rattle.svr_core.specs.Run.{IsRun, texts}
 use Rattle.svr_core.specs.State.{empty}
+use Rattle.svr_edge.proofs.CausesLemmas.{Rose-earlier}
 use Rattle.svr_lines.specs.Lines.{pieces_of}
 use Rattle.svr_lines.specs.Reading.{KnowsEnd, Reading, taken_bytes}
 use Rattle.svr_request.specs.declared.reply.Reply.{Reply}
@@ -14,8 +15,11 @@ use Rattle.svr_request.specs.Requests.{Submitted}
 use Rattle.svr_serve.specs.declared.ending.Ending.{Ending}
 use Rattle.svr_serve.specs.declared.ending.Ending.TheVariants.{Complete, Cut, Words, Input, Output, Memory, Bytes}
 use Rattle.svr_serve.specs.Input.{ends_in_block, is_cut, request_in, requests_of, whole_in, whole_requests}
-use Rattle.svr_serve.specs.Program.{AnswersFirst, EndsInBlock, IsPrefix, Served, Took, TookLess, WritesPart}
-use Rattle.svr_serve.specs.Serving.{EndsBy, EndsCut, EndsInput, IsWhole, Replies, SoFar, Standing, StopsReading, StopsShort, StopsTurn, WritesBehind, WritesFirst}
+use Rattle.svr_serve.specs.Program.{AnswersFirst, EndsInBlock, IsPrefix, SendsAll, Served, Streams, Took, TookLess, WritesPart}
+use Rattle.svr_serve.specs.declared.turn.Turn.TheVariants.{Ended, Stop}
+use Rattle.svr_serve.specs.Layout.{Ends, EndsBy, EndsCut, EndsInput, HasTurnCauses, Replies, Standing, StopsReading, StopsShort, StopsTurn}
+use Rattle.svr_serve.specs.Layout.{TurnDoes, WritesBehind, WritesFirst}
+use Rattle.svr_serve.proofs.SoFar.{Between, IsWhole, SoFar}
 use Rattle.svr_serve.proofs.Joins.{ends_in_block-join, requests_of-join, requests_of-none, whole_requests-join}
 use Rattle.svr_serve.proofs.Parts.{parts_of-none}
 use Rattle.svr_serve.proofs.Runs.{texts-more}
@@ -100,8 +104,8 @@ took_no_more (Some x) (Some y) (Some z) xs bytes most p end q few = (
 
 -- a request could be read, or the sink failed
 reads_none : (e : Ending) (old new : Standing) → StopsTurn e old new → (e ≡ Output → ⊥)
-    → StopsReading e old.left new.left old.lines new.lines × (new.taken ≡ old.taken)
-reads_none e old new p other = elim p [ inl cut ↦ absurd (other cut.0) | inr none ↦ (none.0, none.1.1) ]
+    → StopsReading e old.streams.left new.streams.left old.lines new.lines × (new.streams.taken ≡ old.streams.taken)
+reads_none e old new p other = elim p [ inl cut ↦ absurd (other cut.0) | inr none ↦ (none.0, none.1.taken) ]
 
 -- no stop is a complete end
 not_complete : (e : Ending) (old new : Standing) → StopsTurn e old new → e ≡ Complete → ⊥
@@ -109,69 +113,69 @@ not_complete e old new p is =
     (reads_none Complete old new (subst (λ (x : Ending). StopsTurn x old new) is p) (λ other. cc)).0
 
 module _ (left taken : Option (List ℕ)) (old new : Standing) (s : SoFar left taken old) where
-  same_written : new.taken ≡ old.taken → Appends taken new.taken (texts s.replies)
+  same_written : new.streams.taken ≡ old.streams.taken → Appends taken new.streams.taken (texts s.replies)
   same_written silent = subst (λ (w : Option (List ℕ)). Appends taken w (texts s.replies)) (sym silent) s.written
 
   -- nothing more was written
-  writes_first : new.taken ≡ old.taken → WritesFirst left taken new.taken
+  writes_first : new.streams.taken ≡ old.streams.taken → WritesFirst left taken new.streams.taken
   writes_first silent =
-      by_rest left old.left s.handed old.lines.ahead
-      (λ input. (replies : List Reply) × AnswersFirst input replies × Appends taken new.taken (texts replies)) s.consumed
+      by_rest left old.streams.left s.handed old.lines.ahead
+      (λ input. (replies : List Reply) × AnswersFirst input replies × Appends taken new.streams.taken (texts replies)) s.consumed
       (λ rest known. (
         s.replies,
-        answers_first old.lines old.left s.handed rest s.whole s.known_end known s.replies s.run,
+        answers_first old.lines old.streams.left s.handed rest s.whole s.known_end known s.replies s.run,
         same_written silent,
       ))
 
   -- a reply was written in part
   writes_part : (reply : Reply) (front : List ℕ) → IsPrefix front (text_of reply) → Replies old new reply front
-      → WritesPart left taken new.taken
+      → WritesPart left taken new.streams.taken
   writes_part reply front f r =
-      let a = r.0 in
+      let a = r.answers in
       let t = a.takes in
       let handed = s.handed ++ t.gone in
       let part : texts (s.replies ++ reply ∷ []) ≡ (texts s.replies ++ front) ++ f.0 = texts-more s.replies reply
       ∙ ap (λ ys. texts s.replies ++ ys) f.1 ∙ sym (append_assoc (texts s.replies) front f.0) in
-      by_rest left new.left handed new.lines.ahead
+      by_rest left new.streams.left handed new.lines.ahead
       (λ input. (replies : List Reply) × (written : List ℕ) × AnswersFirst input replies × IsPrefix written (texts replies)
-      × Appends taken new.taken written)
-      (Consumes-reads left old.left new.left old.lines new.lines s.handed t.gone t.bytes s.consumed t.reads)
+      × Appends taken new.streams.taken written)
+      (Consumes-reads left old.streams.left new.streams.left old.lines new.lines s.handed t.gone t.bytes s.consumed t.reads)
       (λ rest known. (
         s.replies ++ reply ∷ [],
         texts s.replies ++ front,
-        answers_first new.lines new.left handed rest (next_whole left taken old new s a.request t) t.known_end known
+        answers_first new.lines new.streams.left handed rest (next_whole left taken old new s a.request t) t.known_end known
             (s.replies ++ reply ∷ []) (next_run left taken old new s reply a),
         (f.0, part),
-        Appends-trans taken old.taken new.taken (texts s.replies) front s.written r.1,
+        Appends-trans taken old.streams.taken new.streams.taken (texts s.replies) front s.written r.bytes,
       ))
 
   -- the reader stopped
-  writes_behind : StopsShort old.left new.left old.lines new.lines → new.taken ≡ old.taken → WritesBehind left new.left taken new.taken
+  writes_behind : StopsShort old.streams.left new.streams.left old.lines new.lines → new.streams.taken ≡ old.streams.taken → WritesBehind left new.streams.left taken new.streams.taken
   writes_behind p silent =
       let ahead = old.lines.ahead ++ p.bytes in (
         s.handed ++ ahead,
         s.replies,
-        Consumes-ahead left old.left new.left s.handed old.lines.ahead p.bytes ahead s.consumed p.consumed refl,
+        Consumes-ahead left old.streams.left new.streams.left s.handed old.lines.ahead p.bytes ahead s.consumed p.consumed refl,
         subst (λ (rs : List Submitted). IsRun empty rs s.replies)
             (sym (whole_requests-join s.handed ahead (s.whole p.open_end) p.none)) s.run,
         same_written silent,
       )
 
   -- the input ended inside a block
-  cut_whole : (p : EndsCut old.left new.left old.lines new.lines) → whole_requests ((s.handed ++ p.gone) ++ new.lines.ahead) ≡ requests_of s.handed
+  cut_whole : (p : EndsCut old.streams.left new.streams.left old.lines new.lines) → whole_requests ((s.handed ++ p.gone) ++ new.lines.ahead) ≡ requests_of s.handed
   cut_whole p = ap (λ xs. whole_requests ((s.handed ++ p.gone) ++ xs)) p.last.ahead ∙ ap whole_requests (append-nil (s.handed ++ p.gone))
       ∙ whole_requests-join s.handed p.gone (s.whole p.open_end) (ap (filter_map whole_in) p.part)
 
-  cut_inside : (p : EndsCut old.left new.left old.lines new.lines) → (rest : List ℕ) → new.lines.ahead ++ rest ≡ []
+  cut_inside : (p : EndsCut old.streams.left new.streams.left old.lines new.lines) → (rest : List ℕ) → new.lines.ahead ++ rest ≡ []
       → ends_in_block ((s.handed ++ p.gone) ++ (new.lines.ahead ++ rest)) ≡ true
   cut_inside p rest none = ap (λ xs. ends_in_block ((s.handed ++ p.gone) ++ xs)) none ∙ ap ends_in_block (append-nil (s.handed ++ p.gone))
       ∙ ends_in_block-join s.handed p.gone (s.whole p.open_end) s.uncut ∙ ap (list_any is_cut) p.part
 
-  consumed_cut : (p : EndsCut old.left new.left old.lines new.lines) → Consumes left new.left ((s.handed ++ p.gone) ++ new.lines.ahead)
-  consumed_cut p = Consumes-reads left old.left new.left old.lines new.lines s.handed p.gone p.bytes s.consumed p.reads
+  consumed_cut : (p : EndsCut old.streams.left new.streams.left old.lines new.lines) → Consumes left new.streams.left ((s.handed ++ p.gone) ++ new.lines.ahead)
+  consumed_cut p = Consumes-reads left old.streams.left new.streams.left old.lines new.lines s.handed p.gone p.bytes s.consumed p.reads
 
-  cuts : EndsCut old.left new.left old.lines new.lines → new.taken ≡ old.taken
-      → WritesBehind left new.left taken new.taken × EndsInBlock left new.left
+  cuts : EndsCut old.streams.left new.streams.left old.lines new.lines → new.streams.taken ≡ old.streams.taken
+      → WritesBehind left new.streams.left taken new.streams.taken × EndsInBlock left new.streams.left
   cuts p silent = (
     (
       (s.handed ++ p.gone) ++ new.lines.ahead,
@@ -182,12 +186,12 @@ module _ (left taken : Option (List ℕ)) (old new : Standing) (s : SoFar left t
     ),
     record {
       end = p.last.source;
-      cut = by_rest left new.left (s.handed ++ p.gone) new.lines.ahead (λ input. ends_in_block input ≡ true) (consumed_cut p)
-          (λ rest known. cut_inside p rest (none_left new.left new.lines.ahead rest p.last.ahead p.last.source known));
+      cut = by_rest left new.streams.left (s.handed ++ p.gone) new.lines.ahead (λ input. ends_in_block input ≡ true) (consumed_cut p)
+          (λ rest known. cut_inside p rest (none_left new.streams.left new.lines.ahead rest p.last.ahead p.last.source known));
     },
   )
 
-  pub stops_by : (e : Ending) → StopsTurn e old new → EndsBy e left new.left taken new.taken
+  stops_by : (e : Ending) → StopsTurn e old new → EndsBy e left new.streams.left taken new.streams.taken
   stops_by Output p = elim p [ inl cut ↦ writes_part cut.1 cut.2 cut.3 cut.4 | inr none ↦ absurd none.0 ]
   stops_by Input p = let r = reads_none Input old new p (λ is. cc) in writes_behind r.0 r.1
   stops_by Bytes p = let r = reads_none Bytes old new p (λ is. cc) in writes_behind r.0 r.1
@@ -197,52 +201,52 @@ module _ (left taken : Option (List ℕ)) (old new : Standing) (s : SoFar left t
   stops_by Words p = absurd (reads_none Words old new p (λ is. cc)).0
 
   -- the input ended
-  all_requests : (e : EndsInput old.left new.left old.lines new.lines) → IfSome left (λ input. requests_of input ≡ requests_of s.handed)
+  all_requests : (e : EndsInput old.streams.left new.streams.left old.lines new.lines) → IfSome left (λ input. requests_of input ≡ requests_of s.handed)
   all_requests e =
       by_cases old.lines.ended (IfSome left (λ input. requests_of input ≡ requests_of s.handed))
-      (λ is. by_rest left old.left s.handed old.lines.ahead (λ input. requests_of input ≡ requests_of s.handed) s.consumed
+      (λ is. by_rest left old.streams.left s.handed old.lines.ahead (λ input. requests_of input ≡ requests_of s.handed) s.consumed
       (λ rest known. let end = s.known_end is in
-      ap (λ xs. requests_of (s.handed ++ xs)) (none_left old.left old.lines.ahead rest end.0 end.1 known)
+      ap (λ xs. requests_of (s.handed ++ xs)) (none_left old.streams.left old.lines.ahead rest end.0 end.1 known)
       ∙ ap requests_of (append-nil s.handed)))
-      (λ is. by_rest left new.left (s.handed ++ e.gone) new.lines.ahead (λ input. requests_of input ≡ requests_of s.handed)
-      (Consumes-reads left old.left new.left old.lines new.lines s.handed e.gone e.bytes s.consumed e.reads)
+      (λ is. by_rest left new.streams.left (s.handed ++ e.gone) new.lines.ahead (λ input. requests_of input ≡ requests_of s.handed)
+      (Consumes-reads left old.streams.left new.streams.left old.lines new.lines s.handed e.gone e.bytes s.consumed e.reads)
       (λ rest known. last_requests s.handed e.gone (new.lines.ahead ++ rest) (s.whole is) e.none
-      (none_left new.left new.lines.ahead rest e.last.ahead e.last.source known)))
+      (none_left new.streams.left new.lines.ahead rest e.last.ahead e.last.source known)))
 
-  no_cut : (e : EndsInput old.left new.left old.lines new.lines) → IfSome left (λ input. ends_in_block input ≡ false)
+  no_cut : (e : EndsInput old.streams.left new.streams.left old.lines new.lines) → IfSome left (λ input. ends_in_block input ≡ false)
   no_cut e =
       by_cases old.lines.ended (IfSome left (λ input. ends_in_block input ≡ false))
-      (λ is. by_rest left old.left s.handed old.lines.ahead (λ input. ends_in_block input ≡ false) s.consumed
+      (λ is. by_rest left old.streams.left s.handed old.lines.ahead (λ input. ends_in_block input ≡ false) s.consumed
       (λ rest known. let end = s.known_end is in
-      ap (λ xs. ends_in_block (s.handed ++ xs)) (none_left old.left old.lines.ahead rest end.0 end.1 known)
+      ap (λ xs. ends_in_block (s.handed ++ xs)) (none_left old.streams.left old.lines.ahead rest end.0 end.1 known)
       ∙ ap ends_in_block (append-nil s.handed) ∙ s.uncut))
-      (λ is. by_rest left new.left (s.handed ++ e.gone) new.lines.ahead (λ input. ends_in_block input ≡ false)
-      (Consumes-reads left old.left new.left old.lines new.lines s.handed e.gone e.bytes s.consumed e.reads)
+      (λ is. by_rest left new.streams.left (s.handed ++ e.gone) new.lines.ahead (λ input. ends_in_block input ≡ false)
+      (Consumes-reads left old.streams.left new.streams.left old.lines new.lines s.handed e.gone e.bytes s.consumed e.reads)
       (λ rest known. last_uncut s.handed e.gone (new.lines.ahead ++ rest) (s.whole is) s.uncut e.none
-      (none_left new.left new.lines.ahead rest e.last.ahead e.last.source known)))
+      (none_left new.streams.left new.lines.ahead rest e.last.ahead e.last.source known)))
 
-  pub served : EndsInput old.left new.left old.lines new.lines → new.taken ≡ old.taken → Served left new.left taken new.taken
-  served e silent = served_all left new.left taken new.taken (requests_of s.handed) s.replies (all_requests e) s.run
+  served : EndsInput old.streams.left new.streams.left old.lines new.lines → new.streams.taken ≡ old.streams.taken → Served left new.streams.left taken new.streams.taken
+  served e silent = served_all left new.streams.left taken new.streams.taken (requests_of s.handed) s.replies (all_requests e) s.run
       (same_written silent) e.last.source (no_cut e)
 
   -- ---- how many bytes were taken
 
-  took_behind : (p : StopsShort old.left new.left old.lines new.lines) → Took (taken_bytes new.lines) left new.left
+  took_behind : (p : StopsShort old.streams.left new.streams.left old.lines new.lines) → Took (taken_bytes new.lines) left new.streams.left
   took_behind p =
       let ahead = old.lines.ahead ++ p.bytes in (
         s.handed ++ ahead,
-        Consumes-ahead left old.left new.left s.handed old.lines.ahead p.bytes ahead s.consumed p.consumed refl,
+        Consumes-ahead left old.streams.left new.streams.left s.handed old.lines.ahead p.bytes ahead s.consumed p.consumed refl,
         omega (arith, s.count, p.taken, length-append s.handed ahead, length-append old.lines.ahead p.bytes),
       )
 
-  pub took_all : (e : Ending) → StopsTurn e old new → e ≡ Bytes → taken_bytes new.lines ≡ new.lines.limit
-      → Took (2 ^ 40) left new.left
+  took_all : (e : Ending) → StopsTurn e old new → e ≡ Bytes → taken_bytes new.lines ≡ new.lines.limit
+      → Took (2 ^ 40) left new.streams.left
   took_all e p is all =
       let r = reads_none Bytes old new (subst (λ (x : Ending). StopsTurn x old new) is p) (λ other. cc) in
       let took = took_behind r.0 in
       (took.0, took.1, took.2 ∙ all ∙ r.0.limit ∙ s.limit)
 
-  took_cut : EndsCut old.left new.left old.lines new.lines → TookLess (2 ^ 40) left new.left
+  took_cut : EndsCut old.streams.left new.streams.left old.lines new.lines → TookLess (2 ^ 40) left new.streams.left
   took_cut p = (
     (s.handed ++ p.gone) ++ new.lines.ahead,
     consumed_cut p,
@@ -258,8 +262,8 @@ module _ (left taken : Option (List ℕ)) (old new : Standing) (s : SoFar left t
     ),
   )
 
-  pub took_less : (e : Ending) → StopsTurn e old new → (e ≡ Complete) ⊎ (e ≡ Cut) ⊎ (e ≡ Input)
-      → (e ≡ Input → taken_bytes new.lines < new.lines.limit) → TookLess (2 ^ 40) left new.left
+  took_less : (e : Ending) → StopsTurn e old new → (e ≡ Complete) ⊎ (e ≡ Cut) ⊎ (e ≡ Input)
+      → (e ≡ Input → taken_bytes new.lines < new.lines.limit) → TookLess (2 ^ 40) left new.streams.left
   took_less e p by less = elim by [
     | inl complete ↦ absurd (not_complete e old new p complete)
     | inr other ↦ elim other [
@@ -271,13 +275,13 @@ module _ (left taken : Option (List ℕ)) (old new : Standing) (s : SoFar left t
     ]
   ]
 
-  pub took_to_end : EndsInput old.left new.left old.lines new.lines → TookLess (2 ^ 40) left new.left
-  took_to_end e = by_cases old.lines.ended (TookLess (2 ^ 40) left new.left)
-      (λ is. took_no_more left old.left new.left (s.handed ++ old.lines.ahead) e.bytes (2 ^ 40) s.consumed (s.known_end is).1
+  took_to_end : EndsInput old.streams.left new.streams.left old.lines new.lines → TookLess (2 ^ 40) left new.streams.left
+  took_to_end e = by_cases old.lines.ended (TookLess (2 ^ 40) left new.streams.left)
+      (λ is. took_no_more left old.streams.left new.streams.left (s.handed ++ old.lines.ahead) e.bytes (2 ^ 40) s.consumed (s.known_end is).1
       e.reads.consumed (omega (arith, s.count, s.before_limit is, length-append s.handed old.lines.ahead)))
       (λ is. (
         (s.handed ++ e.gone) ++ new.lines.ahead,
-        Consumes-reads left old.left new.left old.lines new.lines s.handed e.gone e.bytes s.consumed e.reads,
+        Consumes-reads left old.streams.left new.streams.left old.lines new.lines s.handed e.gone e.bytes s.consumed e.reads,
         omega (
           arith,
           s.count,
@@ -289,3 +293,37 @@ module _ (left taken : Option (List ℕ)) (old new : Standing) (s : SoFar left t
           length-append s.handed e.gone,
         ),
       ))
+
+-- ---- how serving ends
+
+module _ (start : Streams) (old new : Standing) (b : Between start old) where
+  pub ends_complete : TurnDoes Ended old new → HasTurnCauses Ended old new → Ends Complete start new.streams
+  ends_complete turn causes = record {
+    by = served start.left start.taken old new b.so_far turn.0 turn.1.taken;
+    sent = λ first. inl (turn.1.sent ∙ b.sent first ∙ sym turn.1.taken);
+    later = omega (arith, b.writes_later, causes.writes_later);
+    input = λ is. cc;
+    output = λ is. cc;
+    bytes = λ is. cc;
+    before_limit = λ _. took_to_end start.left start.taken old new b.so_far turn.0;
+  }
+
+  sends_all : (e : Ending) → StopsTurn e old new → HasTurnCauses (Stop e) old new → SendsAll start new.streams
+  sends_all e turn causes first = elim turn [
+    | inl cut ↦ inr (Rose-earlier start.failed_writes old.streams.failed_writes new.streams.failed_writes b.writes_later
+        (causes.output (ap Stop cut.0)))
+    | inr none ↦ inl (none.1.sent ∙ b.sent first ∙ sym none.1.taken)
+  ]
+
+  pub ends_stop : (e : Ending) → TurnDoes (Stop e) old new → HasTurnCauses (Stop e) old new → Ends e start new.streams
+  ends_stop e turn causes = record {
+    by = stops_by start.left start.taken old new b.so_far e turn;
+    sent = sends_all e turn causes;
+    later = omega (arith, b.writes_later, causes.writes_later);
+    input = λ is. Rose-earlier start.failed_reads old.streams.failed_reads new.streams.failed_reads b.reads_later
+        (causes.input (ap Stop is)).0;
+    output = λ is. Rose-earlier start.failed_writes old.streams.failed_writes new.streams.failed_writes b.writes_later
+        (causes.output (ap Stop is));
+    bytes = λ is. took_all start.left start.taken old new b.so_far e turn is (causes.bytes (ap Stop is));
+    before_limit = λ by. took_less start.left start.taken old new b.so_far e turn by (λ is. (causes.input (ap Stop is)).1);
+  }

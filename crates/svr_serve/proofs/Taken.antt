@@ -8,7 +8,8 @@ use Rattle.std.proofs.lemmas.List.{length-take-le, take-append-le}
 use Rattle.std.proofs.Math.Seq.{drop-append_seam}
 use Rattle.svr_lines.specs.declared.lines.InputStop.{InputStop}
 use Rattle.svr_lines.specs.declared.lines.InputStop.TheVariants as stop
-use Rattle.svr_lines.specs.Pieces.{HandsOut, IsLast, IsPiece, StopsInBlock, StopsInLine}
+use Rattle.svr_lines.specs.Pieces.{HandsOut, IsLast, IsPiece}
+use Rattle.svr_lines.specs.Stops.{StopsInBlock, StopsInLine}
 use Rattle.svr_lines.specs.Reading.{KnowsEnd, Reading, Reads, taken_bytes}
 use Rattle.svr_lines.proofs.Stream.{Reads-then, taken_bytes-reads}
 use Rattle.svr_request.specs.declared.refusal.Refusal.{Refusal}
@@ -16,7 +17,7 @@ use Rattle.svr_request.specs.Requests.{Wanted, with_block}
 use Rattle.svr_serve.specs.declared.ending.Ending.{Ending}
 use Rattle.svr_serve.specs.declared.ending.Ending.TheVariants as ending
 use Rattle.svr_serve.specs.Input.{block_before, block_size, cut, last, line_request, parts_of, submitted, whole, whole_in, whole_requests}
-use Rattle.svr_serve.specs.Serving.{CutsBlock, EndsCut, HoldsWhole, StopsBlock, StopsReading, StopsShort, TakesBlock, TakesNext, TakesRequest, ending_of}
+use Rattle.svr_serve.specs.Layout.{CutsBlock, EndsCut, HoldsWhole, StopsBlock, StopsReading, StopsShort, TakesWholeBlock, TakesNext, TakesRequest, ending_of}
 use Rattle.svr_serve.proofs.Parts.{parts_behind, parts_of-last, parts_of-piece, whole_requests-open}
 
 no_bytes : (bytes : List ℕ) → length bytes ≡ 0 → bytes ≡ []
@@ -92,7 +93,7 @@ module _ (before mid after : Option (List ℕ)) (old line_read new : Reading) (r
       ∙ ap (λ g. last (with_block request (block_before size g)) ∷ []) (sym nil)
 
   -- the block was taken
-  pub takes_request : TakesBlock mid after line_read new size → KnowsEnd new after
+  pub takes_request : TakesWholeBlock mid after line_read new size → KnowsEnd new after
       → (line_read.ended ≡ true → (new.ended ≡ true) × (taken_bytes new ≡ taken_bytes line_read))
       → (line_read.ended ≡ false → new.ended ≡ true → taken_bytes new < new.limit)
       → TakesRequest before after old new (with_block request new.block)

@@ -1,5 +1,6 @@
 -- The requests of an input: its lines, with the blocks behind them.
-use Rattle.std.specs.Prelude.{ℕ, zero, suc, ◌==◌, Bool, true, false, List, [], ◌∷◌, length, take, drop, nat_lt, if◌then◌else◌, Option, Some, None, Result, Err}
+use Rattle.std.specs.Prelude.{ℕ, zero, suc, ◌+◌, ◌-◌, ◌==◌, Bool, true, false, List, [], ◌∷◌, length, take, nat_lt}
+use Rattle.std.specs.Prelude.{if◌then◌else◌, Option, Some, None, Result, Err}
 use Rattle.std.specs.List.{filter_map, list_any}
 use Rattle.std.specs.Option.{unwrap_or}
 use Rattle.svr_lines.specs.Lines.{is_skipped}
@@ -53,21 +54,26 @@ abbrev pub part_of : Bool → Submitted → Part
 part_of true s = whole s
 part_of false s = last s
 
--- the part that begins with a line, and then those of the text behind its block; a line that is passed over is no part
-abbrev pub parts_with : FirstLine → (List ℕ → List Part) → List Part
+-- how many bytes a first line has, with its line feed
+abbrev pub line_bytes : FirstLine → ℕ
+line_bytes f = length f.line + 1
+
+-- the part that begins with a line, and then the others, of which some number of bytes is in front: those of the line and
+-- of its block; a line that is passed over is no part
+abbrev pub parts_with : FirstLine → (ℕ → List Part) → List Part
 parts_with f others =
-    if is_skipped f.line then others f.behind
+    if is_skipped f.line then others (line_bytes f)
     else if nat_lt (length f.behind) (block_size f.line) then cut ∷ []
-    else part_of f.ended (submitted f.line f.behind) ∷ others (drop (block_size f.line) f.behind)
+    else part_of f.ended (submitted f.line f.behind) ∷ others (line_bytes f + block_size f.line)
 
--- the parts of the first n lines of a text
-unfoldable pub parts_from : ℕ → List ℕ → List Part
-parts_from zero text = []
-parts_from (suc n) text = parts_with (first_line text) (parts_from n)
+-- the parts behind the first n bytes of a text
+unfoldable pub parts_after : ℕ → List ℕ → List Part
+parts_after n [] = []
+parts_after (suc n) (b ∷ bytes) = parts_after n bytes
+parts_after zero (b ∷ bytes) = parts_with (first_line (b ∷ bytes)) (λ n. parts_after (n - 1) bytes)
 
--- each line takes a byte at least
 unfoldable pub parts_of : List ℕ → List Part
-parts_of text = parts_from (length text) text
+parts_of text = parts_after 0 text
 
 abbrev pub request_in : Part → Option Submitted
 request_in (whole s) = Some s

@@ -1,3 +1,3 @@
 pub mod Input
 pub mod Program
-pub mod Serving
+pub mod Layout

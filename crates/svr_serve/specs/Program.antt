@@ -1,5 +1,6 @@
 -- What the program does, by the status that it ends with.
-use Rattle.std.specs.Prelude.{◌≡◌, ◌⊎◌, ◌<◌, ℕ, ◌==◌, Bool, true, false, List, [], ◌∷◌, ◌++◌, length, codes, if◌then◌else◌, Option, IfSome}
+use Rattle.std.specs.Prelude.{◌≡◌, ◌⊎◌, ◌↔◌, ◌<◌, ◌^◌, ℕ, ◌==◌, Bool, true, false, List, [], ◌∷◌}
+use Rattle.std.specs.Prelude.{◌++◌, length, codes, if◌then◌else◌, Option, IfSome, Contains}
 use Rattle.std.specs.Str.{bytes_eq}
 use Rattle.std.specs.Io.KnownBytes.{Appends, Consumes, IsAtEnd}
 use Rattle.svr_edge.specs.Causes.{Rose}
@@ -23,6 +24,19 @@ fault_line status =
     else if status == 7 then codes "{\"fault\":\"memory\"}\n"
     else if status == 8 then codes "{\"fault\":\"long\"}\n"
     else []
+
+-- the program's streams, as far as they tell: the bytes that are left to be read, those that were taken and those of
+-- them that were sent on their way, and how often each side has failed
+pub record Streams : Type 0 where
+  pub left : Option (List ℕ)
+  pub failed_reads : ℕ
+  pub taken : Option (List ℕ)
+  pub sent : Option (List ℕ)
+  pub failed_writes : ℕ
+
+abbrev pub streams : Option (List ℕ) → ℕ → Option (List ℕ) → Option (List ℕ) → ℕ → Streams
+streams left failed_reads taken sent failed_writes =
+    record { left = left; failed_reads = failed_reads; taken = taken; sent = sent; failed_writes = failed_writes }
 
 abbrev pub IsPrefix : List ℕ → List ℕ → Type 0
 IsPrefix front whole = (rest : List ℕ) × (whole ≡ front ++ rest)
@@ -82,3 +96,32 @@ StoppedBehind status before after left rest taken now =
 -- nothing but the fault line was written
 abbrev pub WritesFaultAlone : ℕ → ℕ → ℕ → Option (List ℕ) → Option (List ℕ) → Type 0
 WritesFaultAlone status before after taken now = (line : List ℕ) × WritesFault status before after line × Appends taken now line
+
+-- all that was taken was sent on, if that was so before; or the sink has failed
+abbrev pub SendsAll : Streams → Streams → Type 0
+SendsAll before after = before.sent ≡ before.taken → (after.sent ≡ after.taken) ⊎ Rose before.failed_writes after.failed_writes
+
+-- what was written and sent, by the status
+pub record Writes (status : ℕ) (before after : Streams) : Type 0 where
+  -- the replies to all requests of the whole input
+  pub served : status ≡ 0 → Served before.left after.left before.taken after.taken
+  -- a beginning of the replies
+  pub part : status ≡ 4 → WritesPart before.left before.taken after.taken
+  -- the replies to all whole requests that were read, and the fault line
+  pub stopped : (status ≡ 1) ⊎ (status ≡ 3) ⊎ (status ≡ 8)
+      → StoppedBehind status before.failed_writes after.failed_writes before.left after.left before.taken after.taken
+  -- the replies to some first requests, and the fault line
+  pub memory : status ≡ 7 → Stopped 7 before.failed_writes after.failed_writes before.left before.taken after.taken
+  -- the fault line alone
+  pub unread : status ≡ 2 → (after.left ≡ before.left) × WritesFaultAlone 2 before.failed_writes after.failed_writes before.taken after.taken
+  pub sent : SendsAll before after
+
+-- when the program of these words ends with the status
+pub record HasStatus (command : List (List ℕ)) (status : ℕ) (before after : Streams) : Type 0 where
+  pub statuses : Contains (0 ∷ 1 ∷ 2 ∷ 3 ∷ 4 ∷ 7 ∷ 8 ∷ []) status
+  pub words : status ≡ 2 ↔ (asks_to_serve command ≡ false)
+  pub cut : status ≡ 1 → EndsInBlock before.left after.left
+  pub input : status ≡ 3 → Rose before.failed_reads after.failed_reads
+  pub output : status ≡ 4 → Rose before.failed_writes after.failed_writes
+  pub bytes : status ≡ 8 → Took (2 ^ 40) before.left after.left
+  pub before_limit : (status ≡ 0) ⊎ (status ≡ 1) ⊎ (status ≡ 3) → TookLess (2 ^ 40) before.left after.left

@@ -1,6 +1,6 @@
 ghost use Rattle.std.specs.Prelude.{◌≡◌};
 ghost use Rattle.svr_serve.specs.Program.{fault_line};
-ghost use Rattle.svr_serve.specs.Serving.{status_of};
+ghost use Rattle.svr_serve.specs.Layout.{status_of};
 
 use svr_edge::Memory;
 use svr_lines::InputStop;
@@ -26,7 +26,7 @@ pub(crate) enum Ending {
 
 impl From<InputStop> for Ending {
     ghost use Rattle.std.specs.Prelude.{◌≡◌};
-    ghost use Rattle.svr_serve.specs.Serving.{ending_of};
+    ghost use Rattle.svr_serve.specs.Layout.{ending_of};
 
     ghost from_gives = { λ stop ending. ending ≡ ending_of stop };
 

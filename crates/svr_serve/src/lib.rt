@@ -4,6 +4,8 @@
 mod ending;
 mod output;
 mod serve;
+mod session;
 mod turn;
 
-pub use serve::{INPUT_BYTES, svr};
+pub use serve::svr;
+pub use session::INPUT_BYTES;

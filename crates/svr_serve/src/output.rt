@@ -1,8 +1,8 @@
-ghost use Rattle.std.specs.Prelude.{◌≡◌, ◌≤◌, ℕ, List, OnOk, OnErr};
+ghost use Rattle.std.specs.Prelude.{◌≡◌, ◌⊎◌, ◌≤◌, ℕ, List, OnOk, OnErr};
 ghost use Rattle.std.specs.Io.KnownBytes.{Appends};
 ghost use Rattle.svr_edge.specs.Causes.{Rose};
 ghost use Rattle.svr_serve.specs.Program.{IsPrefix, WritesFault};
-ghost use Rattle.svr_serve.specs.Serving.{status_of};
+ghost use Rattle.svr_serve.specs.Layout.{status_of};
 
 use crate::ending::Ending;
 use svr_edge::{Failed, Sink};
@@ -26,6 +26,7 @@ fn write_all<O: Sink>(output: &mut O, piece: &[u8]) -> Result<(), Failed>
 pub(crate) fn send<O: Sink>(output: &mut O, piece: &[u8]) -> Result<(), Failed>
     ensures bytes { (front : List ℕ) × IsPrefix front piece.now
         × Appends (O.taken output.old) (O.taken output.new) front × OnOk result (front ≡ piece.now) }
+    ensures sent { OnOk result (O.sent output.new ≡ O.taken output.new) }
     ensures later { O.faults output.old ≤ O.faults output.new }
     ensures failed { OnErr result (Rose (O.faults output.old) (O.faults output.new)) }
 {
@@ -38,6 +39,8 @@ pub(crate) fn finish<O: Sink>(ending: Ending, output: &mut O) -> u8
     ensures status { result ≡ status_of ending }
     ensures line { (line : List ℕ) × WritesFault result (O.faults output.old) (O.faults output.new) line
         × Appends (O.taken output.old) (O.taken output.new) line }
+    ensures sent { O.sent output.old ≡ O.taken output.old
+        → (O.sent output.new ≡ O.taken output.new) ⊎ Rose (O.faults output.old) (O.faults output.new) }
     ensures later { O.faults output.old ≤ O.faults output.new }
 {
     let line = ending.fault_line();

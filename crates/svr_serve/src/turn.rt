@@ -1,17 +1,16 @@
 ghost use Rattle.std.specs.Prelude.{◌≡◌, ◌⊎◌, ◌+◌, ◌<◌, ◌≤◌, ◌^◌, true, false, Ok, Err, None, IfOk, OnOk, IsOk, IfSome, IfErr, IsErrOf, unwrap_or};
-ghost use Rattle.svr_core.specs.Run.{MayReply, state_then};
-ghost use Rattle.svr_edge.specs.Causes.{Rose};
 ghost use Rattle.svr_lines.specs.Reading.{taken_bytes, KnowsEnd};
 ghost use Rattle.svr_request.specs.Requests.{seen_or_refused, with_block};
-ghost use Rattle.svr_serve.specs.Serving.{TakesNext, TakesBlock, TakesRequest, EndsInput, StopsBlock, StopsReading, PrintsReply, TurnDoes, standing};
+ghost use Rattle.svr_serve.specs.Layout.{EndsInput, HasReadCauses, HasTurnCauses, PrintsReply, StopsBlock, StopsReading, TakesNext, TakesRequest, TakesWholeBlock, TurnDoes, standing};
+ghost use Rattle.svr_serve.specs.Program.{streams};
 
 use crate::ending::Ending;
 use crate::output::send;
+use crate::session::Session;
 use std::alloc::Global;
-use svr_core::Core;
 use svr_edge::{Failed, Sink, Source};
 use svr_lines::{BlockEnd, Lines, Piece};
-use svr_request::{Asked, Refusal, ReplyBuf, Request, print_reply, read_request};
+use svr_request::{Asked, Refusal, Request, print_reply, read_request};
 
 /// What one turn of the program came to.
 pub(crate) enum Turn {
@@ -35,11 +34,7 @@ fn take_line<S: Source>(
     ensures end { result ≡ Ok None → EndsInput (S.left input.old) (S.left input.new) lines.old lines.new }
     ensures stop { IfErr result (λ ending.
         StopsReading ending (S.left input.old) (S.left input.new) lines.old lines.new) }
-    ensures few { taken_bytes lines.new ≤ lines.new.limit }
-    ensures input { IsErrOf result Ending.Input
-        → Rose (S.faults input.old) (S.faults input.new) × (taken_bytes lines.new < lines.new.limit) }
-    ensures bytes { IsErrOf result Ending.Bytes → taken_bytes lines.new ≡ lines.new.limit }
-    ensures later { S.faults input.old ≤ S.faults input.new }
+    ensures causes { HasReadCauses (S.faults input.old) (S.faults input.new) lines.new result }
 {
     match lines.line(input)? {
         Piece::Line => Ok(Some(read_request(alloc, lines.text())?)),
@@ -54,7 +49,7 @@ fn take_line<S: Source>(
 /// Takes the block of so many bytes that comes next.
 fn take_block<S: Source>(lines: &mut Lines, input: &mut S, size: u64) -> Result<(), Ending>
     requires { KnowsEnd lines.old (S.left input.old) }
-    ensures block { OnOk result (TakesBlock (S.left input.old) (S.left input.new) lines.old lines.new size) }
+    ensures block { OnOk result (TakesWholeBlock (S.left input.old) (S.left input.new) lines.old lines.new size) }
     ensures known_end { OnOk result (KnowsEnd lines.new (S.left input.new)) }
     ensures ended { lines.old.ended ≡ true
         → (lines.new.ended ≡ true) × (taken_bytes lines.new ≡ taken_bytes lines.old) }
@@ -62,11 +57,7 @@ fn take_block<S: Source>(lines: &mut Lines, input: &mut S, size: u64) -> Result<
         → lines.old.ended ≡ false → lines.new.ended ≡ true → taken_bytes lines.new < lines.new.limit }
     ensures stop { IfErr result (λ ending.
         StopsBlock ending (S.left input.old) (S.left input.new) lines.old lines.new size) }
-    ensures few { taken_bytes lines.new ≤ lines.new.limit }
-    ensures input { IsErrOf result Ending.Input
-        → Rose (S.faults input.old) (S.faults input.new) × (taken_bytes lines.new < lines.new.limit) }
-    ensures bytes { IsErrOf result Ending.Bytes → taken_bytes lines.new ≡ lines.new.limit }
-    ensures later { S.faults input.old ≤ S.faults input.new }
+    ensures causes { HasReadCauses (S.faults input.old) (S.faults input.new) lines.new result }
 {
     match lines.block(input, size)? {
         BlockEnd::Whole | BlockEnd::Dropped => Ok(()),
@@ -86,11 +77,7 @@ fn take_request<S: Source>(
     ensures end { result ≡ Ok None → EndsInput (S.left input.old) (S.left input.new) lines.old lines.new }
     ensures stop { IfErr result (λ ending.
         StopsReading ending (S.left input.old) (S.left input.new) lines.old lines.new) }
-    ensures few { taken_bytes lines.new ≤ lines.new.limit }
-    ensures input { IsErrOf result Ending.Input
-        → Rose (S.faults input.old) (S.faults input.new) × (taken_bytes lines.new < lines.new.limit) }
-    ensures bytes { IsErrOf result Ending.Bytes → taken_bytes lines.new ≡ lines.new.limit }
-    ensures later { S.faults input.old ≤ S.faults input.new }
+    ensures causes { HasReadCauses (S.faults input.old) (S.faults input.new) lines.new result }
 {
     let Some(asked) = take_line(alloc, lines, input)? else {
         return Ok(None);
@@ -102,29 +89,25 @@ fn take_request<S: Source>(
 /// Takes the next request, answers it and prints the reply. False at the end of the input.
 fn print_next<S: Source>(
     alloc: Global,
-    core: &mut Core,
-    lines: &mut Lines,
-    buffer: &mut ReplyBuf,
+    session: &mut Session,
     input: &mut S,
 ) -> Result<bool, Ending>
-    requires known_end { KnowsEnd lines.old (S.left input.old) }
-    requires changes { core.old.changes + 1 < 2 ^ 64 }
-    ensures reply { result ≡ Ok true → PrintsReply (S.left input.old) (S.left input.new) lines.old lines.new
-        core.old core.new buffer.new }
-    ensures end { result ≡ Ok false → EndsInput (S.left input.old) (S.left input.new) lines.old lines.new
-        × (core.new ≡ core.old) }
+    requires known_end { KnowsEnd session.old.lines (S.left input.old) }
+    requires changes { session.old.core.changes + 1 < 2 ^ 64 }
+    ensures reply { result ≡ Ok true → PrintsReply (S.left input.old) (S.left input.new) session.old session.new }
+    ensures end { result ≡ Ok false → EndsInput (S.left input.old) (S.left input.new) session.old.lines session.new.lines
+        × (session.new.core ≡ session.old.core) }
     ensures stop { IfErr result (λ ending.
-        StopsReading ending (S.left input.old) (S.left input.new) lines.old lines.new × (core.new ≡ core.old)) }
-    ensures few { taken_bytes lines.new ≤ lines.new.limit }
-    ensures input { IsErrOf result Ending.Input
-        → Rose (S.faults input.old) (S.faults input.new) × (taken_bytes lines.new < lines.new.limit) }
-    ensures bytes { IsErrOf result Ending.Bytes → taken_bytes lines.new ≡ lines.new.limit }
-    ensures later { S.faults input.old ≤ S.faults input.new }
+        StopsReading ending (S.left input.old) (S.left input.new) session.old.lines session.new.lines
+        × (session.new.core ≡ session.old.core)) }
+    ensures causes { HasReadCauses (S.faults input.old) (S.faults input.new) session.new.lines result }
 {
-    match take_request(alloc, lines, input) {
+    match take_request(alloc, &mut session.lines, input) {
         Ok(Some(request)) => {
-            let reply = core.answer(alloc, request, lines.block_bytes());
-            print_reply(&reply, buffer);
+            let reply = session
+                .core
+                .answer(alloc, request, session.lines.block_bytes());
+            print_reply(&reply, &mut session.reply);
             Ok(true)
         }
         Ok(None) => Ok(false),
@@ -135,27 +118,25 @@ fn print_next<S: Source>(
 /// Carries one turn: takes the next request, answers it, and writes the reply and sends it on its way.
 pub(crate) fn serve_one<S: Source, O: Sink>(
     alloc: Global,
-    core: &mut Core,
-    lines: &mut Lines,
-    buffer: &mut ReplyBuf,
+    session: &mut Session,
     input: &mut S,
     output: &mut O,
 ) -> Turn
-    requires known_end { KnowsEnd lines.old (S.left input.old) }
-    requires changes { core.old.changes + 1 < 2 ^ 64 }
+    requires known_end { KnowsEnd session.old.lines (S.left input.old) }
+    requires changes { session.old.core.changes + 1 < 2 ^ 64 }
     ensures turn { TurnDoes result
-        (standing (S.left input.old) lines.old core.old (O.taken output.old))
-        (standing (S.left input.new) lines.new core.new (O.taken output.new)) }
-    ensures few { taken_bytes lines.new ≤ lines.new.limit }
-    ensures input { result ≡ Turn.Stop Ending.Input
-        → Rose (S.faults input.old) (S.faults input.new) × (taken_bytes lines.new < lines.new.limit) }
-    ensures output { result ≡ Turn.Stop Ending.Output → Rose (O.faults output.old) (O.faults output.new) }
-    ensures bytes { result ≡ Turn.Stop Ending.Bytes → taken_bytes lines.new ≡ lines.new.limit }
-    ensures reads_later { S.faults input.old ≤ S.faults input.new }
-    ensures writes_later { O.faults output.old ≤ O.faults output.new }
+        (standing (streams (S.left input.old) (S.faults input.old) (O.taken output.old) (O.sent output.old) (O.faults output.old))
+        session.old.lines session.old.core)
+        (standing (streams (S.left input.new) (S.faults input.new) (O.taken output.new) (O.sent output.new) (O.faults output.new))
+        session.new.lines session.new.core) }
+    ensures causes { HasTurnCauses result
+        (standing (streams (S.left input.old) (S.faults input.old) (O.taken output.old) (O.sent output.old) (O.faults output.old))
+        session.old.lines session.old.core)
+        (standing (streams (S.left input.new) (S.faults input.new) (O.taken output.new) (O.sent output.new) (O.faults output.new))
+        session.new.lines session.new.core) }
 {
-    match print_next(alloc, core, lines, buffer, input) {
-        Ok(true) => match send(output, buffer.bytes()) {
+    match print_next(alloc, session, input) {
+        Ok(true) => match send(output, session.reply.bytes()) {
             Ok(()) => Turn::Served,
             Err(Failed) => Turn::Stop(Ending::Output),
         },

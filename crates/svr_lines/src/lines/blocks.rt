@@ -1,8 +1,8 @@
 ghost use Rattle.std.specs.Prelude.{◌≡◌, ℕ, ◌+◌, ◌<◌, ◌≤◌, ◌++◌, true, false, [], List, take, length, min, Ok, IfOk, OnOk, OnErr, IsErrOf, if◌then◌else◌};
-ghost use Rattle.svr_edge.specs.Causes.{Rose};
-ghost use Rattle.svr_lines.specs.Pieces.{TakesBlock, StopsInBlock, block_at_end};
+ghost use Rattle.svr_lines.specs.Pieces.{TakesBlock, block_at_end};
 ghost use Rattle.svr_lines.specs.Reading.{taken_bytes, KnowsEnd, Reads};
-ghost use Rattle.svr_lines.specs.Steps.{Passes};
+ghost use Rattle.svr_lines.specs.Stops.{HasStopCauses, StopsInBlock};
+ghost use Rattle.svr_lines.specs.Layout.Steps.{Passes};
 
 use crate::buffer::append;
 use crate::lines::{BLOCK_BYTES, BlockEnd, InputStop, Lines};
@@ -58,14 +58,9 @@ impl Lines {
         ensures ended { self.old.ended ≡ true → (self.new.ended ≡ true) × (taken_bytes self.new ≡ taken_bytes self.old) }
 
         // No more bytes are taken than may be, which is tested before the end.
-        ensures few { taken_bytes self.new ≤ self.new.limit }
         ensures before_limit { OnOk result (self.old.ended ≡ false → self.new.ended ≡ true
             → taken_bytes self.new < self.new.limit) }
-
-        ensures input { IsErrOf result InputStop.Input
-            → Rose (S.faults input.old) (S.faults input.new) × (taken_bytes self.new < self.new.limit) }
-        ensures bytes { IsErrOf result InputStop.Bytes → taken_bytes self.new ≡ self.new.limit }
-        ensures later { S.faults input.old ≤ S.faults input.new }
+        ensures causes { HasStopCauses (S.faults input.old) (S.faults input.new) self.new result }
     {
         self.clear_block();
         let kept = size <= BLOCK_BYTES as u64;

@@ -71,5 +71,5 @@ loop-missing-preserved g c =
           let zero : c.in_ok-read_on.field-0 ≡ 0 = cc in
           absurd (c.if-branch-eq0.false zero),
       λ _. open_end,
-      omega (arith, c.loop-missing.invariant.4, c.read_on.ensures.later),
+      omega (arith, c.loop-missing.invariant.4, c.read_on.ensures.causes.later),
     )

@@ -1,6 +1,6 @@
 use Rattle.std.proofs.Common.{◌≡◌, ◌-◌, ◌≤◌, ℕ, List, true, false}
 use Rattle.svr_lines.specs.Reading.{KnowsEnd, taken_bytes}
-use Rattle.svr_lines.specs.Steps.{TakesPart}
+use Rattle.svr_lines.proofs.SoFar.{TakesPart}
 use Rattle.svr_lines.proofs.lines.Lines.block.Given as goal
 
 abbrev pub invariant-loop-missing : goal.invariant-loop-missing

@@ -92,5 +92,5 @@ loop-self-preserved g c =
           open_end = c.in_ok-read_on.ensures.open_end (omega (arith, c.if-branch-eq0.false));
         },
       ),
-      omega (arith, c.loop-self.invariant.1, c.read_on.ensures.later),
+      omega (arith, c.loop-self.invariant.1, c.read_on.ensures.causes.later),
     )

@@ -1,5 +1,5 @@
 use Rattle.std.proofs.Common.{◌-◌, ◌≤◌, ℕ, List}
-use Rattle.svr_lines.specs.Steps.{GoesOn}
+use Rattle.svr_lines.proofs.SoFar.{GoesOn}
 use Rattle.svr_lines.proofs.lines.Lines.drop_line.Given as goal
 
 abbrev pub invariant-loop-self : goal.invariant-loop-self

@@ -45,5 +45,5 @@ loop-self-preserved g c =
       ends_known c.in_ok-piece.piece next.0 c.next_line.new.self _ next.3,
       λ is. absurd (ended_once _ open_end (c.loop-self.invariant.2 is)),
       λ isnt. c.in_ok-piece.ensures.before_limit,
-      omega (arith, c.loop-self.invariant.4, c.next_line.ensures.later),
+      omega (arith, c.loop-self.invariant.4, c.next_line.ensures.causes.later),
     )

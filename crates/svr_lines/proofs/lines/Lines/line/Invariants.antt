@@ -1,6 +1,6 @@
 use Rattle.std.proofs.Common.{◌≡◌, ◌-◌, ◌<◌, ◌≤◌, ℕ, List, true, false}
 use Rattle.svr_lines.specs.Reading.{KnowsEnd, taken_bytes}
-use Rattle.svr_lines.specs.Steps.{SkipsLines}
+use Rattle.svr_lines.proofs.SoFar.{SkipsLines}
 use Rattle.svr_lines.proofs.lines.Lines.line.Given as goal
 
 abbrev pub invariant-loop-self : goal.invariant-loop-self

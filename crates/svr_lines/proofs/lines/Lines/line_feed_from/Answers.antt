@@ -1,5 +1,5 @@
 use Rattle.std.proofs.Common.{ℕ, List, length, ap, subst}
-use Rattle.svr_lines.specs.Feeds.{NoFeed, FirstFeed}
+use Rattle.svr_lines.specs.Layout.Feeds.{NoFeed, FirstFeed}
 use Rattle.svr_lines.proofs.Feeds.{part_ahead, FirstFeed-drop, NoFeed-drop}
 use Rattle.svr_lines.proofs.lines.Lines.line_feed_from.Goals as goal
 

@@ -2,7 +2,7 @@ use Rattle.std.proofs.Common.{◌≡◌, ◌+◌, [], ◌++◌, take, length, re
 use Rattle.std.proofs.lemmas.List.{nil_from_length, take_all}
 use Rattle.std.proofs.Math.Seq.{drop-length}
 use Rattle.svr_lines.specs.Lines.{IsUnbroken}
-use Rattle.svr_lines.specs.Feeds.{FirstFeed}
+use Rattle.svr_lines.specs.Layout.Feeds.{FirstFeed}
 use Rattle.svr_lines.proofs.Stream.{Reads-then, Reads-as, NoFeed-join, IsUnbroken-all, IsUnbroken-more, IsUnbroken-none}
 use Rattle.svr_lines.proofs.Stream.{passes_front, stops_unbroken, takes_by_feed, takes_last, on_err}
 use Rattle.svr_lines.proofs.lines.Lines.next_line.Goals as goal

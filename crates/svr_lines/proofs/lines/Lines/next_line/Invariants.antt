@@ -1,6 +1,6 @@
 use Rattle.std.proofs.Common.{◌-◌, ◌≤◌, ℕ, List}
 use Rattle.svr_lines.specs.Reading.{taken_bytes}
-use Rattle.svr_lines.specs.Steps.{Searches}
+use Rattle.svr_lines.proofs.SoFar.{Searches}
 use Rattle.svr_lines.proofs.lines.Lines.next_line.Given as goal
 
 abbrev pub invariant-loop-at : goal.invariant-loop-at

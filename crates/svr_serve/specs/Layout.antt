@@ -1,23 +1,27 @@
--- What a turn of the program does, what holds between two turns, and how serving ends, before the fault line.
-use Rattle.std.specs.Prelude.{◌≡◌, ◌⊎◌, ◌<◌, ◌≤◌, ◌+◌, ◌^◌, ℕ, true, false, List, [], ◌∷◌, ◌++◌, length, Option, IfSome, Result}
+-- Words of private clauses: what a turn of the program does, and how serving ends, before the fault line.
+use Rattle.std.specs.Prelude.{◌≡◌, ◌⊎◌, ◌<◌, ◌≤◌, ◌+◌, ◌^◌, ℕ, true, false, List, [], ◌∷◌, ◌++◌, length}
+use Rattle.std.specs.Prelude.{Option, IfSome, Result, IsErrOf}
 use Rattle.std.specs.Io.KnownBytes.{Appends, Consumes}
-use Rattle.svr_core.specs.Run.{IsRun, MayReply, state_in_end, state_then, texts}
+use Rattle.svr_core.specs.Run.{IsRun, MayReply, state_then, texts}
 use Rattle.svr_core.specs.State.{State, empty}
+use Rattle.svr_edge.specs.Causes.{Rose}
 use Rattle.svr_lines.specs.declared.lines.InputStop.{InputStop}
 use Rattle.svr_lines.specs.declared.lines.InputStop.TheVariants as stop
 use Rattle.svr_lines.specs.Lines.{pieces_of}
-use Rattle.svr_lines.specs.Pieces.{HandsOut, IsLast, StopsInBlock}
-use Rattle.svr_lines.specs.Reading.{KnowsEnd, Reading, Reads, taken_bytes}
+use Rattle.svr_lines.specs.Pieces.{HandsOut, IsLast}
+use Rattle.svr_lines.specs.Reading.{KnowsEnd, Reading, Reads, new_reading, taken_bytes}
+use Rattle.svr_lines.specs.Stops.{StopsInBlock}
 use Rattle.svr_request.specs.declared.refusal.Refusal.{Refusal}
 use Rattle.svr_request.specs.declared.reply.Reply.{Reply}
 use Rattle.svr_request.specs.Replies.{text_of}
 use Rattle.svr_request.specs.Requests.{Submitted, Wanted}
 use Rattle.svr_serve.specs.declared.ending.Ending.{Ending}
 use Rattle.svr_serve.specs.declared.ending.Ending.TheVariants as ending
+use Rattle.svr_serve.specs.declared.session.Session.{Session}
 use Rattle.svr_serve.specs.declared.turn.Turn.{Turn}
 use Rattle.svr_serve.specs.declared.turn.Turn.TheVariants as turn
-use Rattle.svr_serve.specs.Input.{block_before, block_size, cut, ends_in_block, last, line_request, parts_of, requests_of, whole, whole_requests}
-use Rattle.svr_serve.specs.Program.{AnswersFirst, EndsInBlock, IsPrefix, Served, WritesPart}
+use Rattle.svr_serve.specs.Input.{block_before, block_size, cut, last, line_request, parts_of, whole, whole_requests}
+use Rattle.svr_serve.specs.Program.{AnswersFirst, EndsInBlock, IsPrefix, SendsAll, Served, Streams, Took, TookLess, WritesPart}
 
 abbrev pub status_of : Ending → ℕ
 status_of ending.Complete = 0
@@ -31,6 +35,11 @@ status_of ending.Bytes = 8
 abbrev pub ending_of : InputStop → Ending
 ending_of stop.Input = ending.Input
 ending_of stop.Bytes = ending.Bytes
+
+-- nothing was accepted, and nothing read
+pub record IsNew (s : Session) : Type 0 where
+  pub core : s.core ≡ empty
+  pub lines : s.lines ≡ new_reading (2 ^ 40)
 
 -- ---- one turn
 
@@ -49,7 +58,7 @@ pub record TakesNext (before after : Option (List ℕ)) (old new : Reading) (req
   pub before_limit : new.ended ≡ true → taken_bytes new < new.limit
 
 -- a block of so many bytes was taken, and is kept where it isn't too long
-pub record TakesBlock (before after : Option (List ℕ)) (old new : Reading) (size : ℕ) : Type 0 where
+pub record TakesWholeBlock (before after : Option (List ℕ)) (old new : Reading) (size : ℕ) : Type 0 where
   pub gone : List ℕ
   pub bytes : List ℕ
   pub reads : Reads before after old new gone bytes
@@ -142,65 +151,59 @@ pub record Answers (before after : Option (List ℕ)) (old new : Reading) (core 
   pub may : MayReply core request reply
   pub state : now ≡ state_then core request reply
 
--- the next request was taken and answered, and this is the text of the reply
-abbrev pub PrintsReply : Option (List ℕ) → Option (List ℕ) → Reading → Reading → State → State → List ℕ → Type 0
-PrintsReply before after old new core now text = (reply : Reply) × Answers before after old new core now reply × (text ≡ text_of reply)
+-- the next request was taken and answered, and the text of the reply is ready
+abbrev pub PrintsReply : Option (List ℕ) → Option (List ℕ) → Session → Session → Type 0
+PrintsReply before after old new = (reply : Reply) × Answers before after old.lines new.lines old.core new.core reply × (new.reply ≡ text_of reply)
 
 -- all that a turn reads or changes
 pub record Standing : Type 0 where
-  -- the bytes that are left in the source, where they are known
-  pub left : Option (List ℕ)
+  pub streams : Streams
   pub lines : Reading
   pub core : State
-  -- the bytes that the sink took, where they are known
-  pub taken : Option (List ℕ)
 
-abbrev pub standing : Option (List ℕ) → Reading → State → Option (List ℕ) → Standing
-standing left lines core taken = record { left = left; lines = lines; core = core; taken = taken }
+abbrev pub standing : Streams → Reading → State → Standing
+standing streams lines core = record { streams = streams; lines = lines; core = core }
 
 -- a request was answered, and of the reply this was written
-abbrev pub Replies : Standing → Standing → Reply → List ℕ → Type 0
-Replies old new reply written = Answers old.left new.left old.lines new.lines old.core new.core reply × Appends old.taken new.taken written
+pub record Replies (old new : Standing) (reply : Reply) (written : List ℕ) : Type 0 where
+  pub answers : Answers old.streams.left new.streams.left old.lines new.lines old.core new.core reply
+  pub bytes : Appends old.streams.taken new.streams.taken written
 
 -- nothing was answered or written
-abbrev pub IsSilent : Standing → Standing → Type 0
-IsSilent old new = (new.core ≡ old.core) × (new.taken ≡ old.taken)
+pub record IsSilent (old new : Standing) : Type 0 where
+  pub core : new.core ≡ old.core
+  pub taken : new.streams.taken ≡ old.streams.taken
+  pub sent : new.streams.sent ≡ old.streams.sent
 
 -- the sink failed, and a beginning of the reply was written; or no request could be read
 abbrev pub StopsTurn : Ending → Standing → Standing → Type 0
 StopsTurn e old new =
     ((e ≡ ending.Output) × (reply : Reply) × (front : List ℕ) × IsPrefix front (text_of reply) × Replies old new reply front)
-    ⊎ (StopsReading e old.left new.left old.lines new.lines × IsSilent old new)
+    ⊎ (StopsReading e old.streams.left new.streams.left old.lines new.lines × IsSilent old new)
 
+-- a reply that was written was sent on too
 abbrev pub TurnDoes : Turn → Standing → Standing → Type 0
-TurnDoes turn.Served old new = (reply : Reply) × Replies old new reply (text_of reply)
-TurnDoes turn.Ended old new = EndsInput old.left new.left old.lines new.lines × IsSilent old new
+TurnDoes turn.Served old new = ((reply : Reply) × Replies old new reply (text_of reply)) × (new.streams.sent ≡ new.streams.taken)
+TurnDoes turn.Ended old new = EndsInput old.streams.left new.streams.left old.lines new.lines × IsSilent old new
 TurnDoes (turn.Stop e) old new = StopsTurn e old new
 
--- ---- many turns
+-- ---- causes
 
--- a text of whole requests: its parts stand in front of those of each text behind it
-pub record IsWhole (text : List ℕ) : Type 0 where
-  pub joins : (more : List ℕ) → parts_of (text ++ more) ≡ parts_of text ++ parts_of more
-  pub whole : whole_requests text ≡ requests_of text
+-- no more bytes were taken than may be, and an ending by the source has its cause
+pub record HasReadCauses {T : Type 0} (before after : ℕ) (new : Reading) (result : Result T Ending) : Type 0 where
+  pub few : taken_bytes new ≤ new.limit
+  pub later : before ≤ after
+  pub input : IsErrOf result ending.Input → Rose before after × (taken_bytes new < new.limit)
+  pub bytes : IsErrOf result ending.Bytes → taken_bytes new ≡ new.limit
 
--- what was read, answered and written since a start at these bytes left and these bytes taken
-pub record SoFar (left taken : Option (List ℕ)) (now : Standing) : Type 0 where
-  -- the bytes that were handed out or passed over
-  pub handed : List ℕ
-  pub replies : List Reply
-  pub consumed : Consumes left now.left (handed ++ now.lines.ahead)
-  pub count : now.lines.handed ≡ length handed
-  pub few : taken_bytes now.lines ≤ 2 ^ 40
-  pub limit : now.lines.limit ≡ 2 ^ 40
-  pub whole : now.lines.ended ≡ false → IsWhole handed
-  pub uncut : ends_in_block handed ≡ false
-  pub known_end : KnowsEnd now.lines now.left
-  pub before_limit : now.lines.ended ≡ true → taken_bytes now.lines < 2 ^ 40
-  pub run : IsRun empty (requests_of handed) replies
-  pub state : now.core ≡ state_in_end empty (requests_of handed) replies
-  pub changes : now.core.changes ≤ now.lines.handed
-  pub written : Appends taken now.taken (texts replies)
+-- the same of a turn, whose writes have their cause too
+pub record HasTurnCauses (by : Turn) (old new : Standing) : Type 0 where
+  pub few : taken_bytes new.lines ≤ new.lines.limit
+  pub reads_later : old.streams.failed_reads ≤ new.streams.failed_reads
+  pub writes_later : old.streams.failed_writes ≤ new.streams.failed_writes
+  pub input : by ≡ turn.Stop ending.Input → Rose old.streams.failed_reads new.streams.failed_reads × (taken_bytes new.lines < new.lines.limit)
+  pub output : by ≡ turn.Stop ending.Output → Rose old.streams.failed_writes new.streams.failed_writes
+  pub bytes : by ≡ turn.Stop ending.Bytes → taken_bytes new.lines ≡ new.lines.limit
 
 -- ---- how serving ends
 
@@ -221,3 +224,13 @@ EndsBy ending.Input left rest taken now = WritesBehind left rest taken now
 EndsBy ending.Bytes left rest taken now = WritesBehind left rest taken now
 EndsBy ending.Memory left rest taken now = WritesFirst left taken now
 EndsBy ending.Words left rest taken now = ⊥
+
+-- how serving ended, before the fault line
+pub record Ends (e : Ending) (before after : Streams) : Type 0 where
+  pub by : EndsBy e before.left after.left before.taken after.taken
+  pub sent : SendsAll before after
+  pub later : before.failed_writes ≤ after.failed_writes
+  pub input : e ≡ ending.Input → Rose before.failed_reads after.failed_reads
+  pub output : e ≡ ending.Output → Rose before.failed_writes after.failed_writes
+  pub bytes : e ≡ ending.Bytes → Took (2 ^ 40) before.left after.left
+  pub before_limit : (e ≡ ending.Complete) ⊎ (e ≡ ending.Cut) ⊎ (e ≡ ending.Input) → TookLess (2 ^ 40) before.left after.left

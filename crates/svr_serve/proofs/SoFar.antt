@@ -1,0 +1,40 @@
+-- What holds between two turns.
+use Rattle.std.specs.Prelude.{◌≡◌, ◌<◌, ◌≤◌, ◌^◌, ℕ, true, false, List, ◌++◌, length, Option}
+use Rattle.std.specs.Io.KnownBytes.{Appends, Consumes}
+use Rattle.svr_core.specs.Run.{IsRun, state_in_end, texts}
+use Rattle.svr_core.specs.State.{empty}
+use Rattle.svr_lines.specs.Reading.{KnowsEnd, taken_bytes}
+use Rattle.svr_request.specs.declared.reply.Reply.{Reply}
+use Rattle.svr_serve.specs.Input.{ends_in_block, parts_of, requests_of, whole_requests}
+use Rattle.svr_serve.specs.Layout.{Standing}
+use Rattle.svr_serve.specs.Program.{Streams}
+
+-- a text of whole requests: its parts stand in front of those of each text behind it
+pub record IsWhole (text : List ℕ) : Type 0 where
+  pub joins : (more : List ℕ) → parts_of (text ++ more) ≡ parts_of text ++ parts_of more
+  pub whole : whole_requests text ≡ requests_of text
+
+-- what was read, answered and written since a start at these bytes left and these bytes taken
+pub record SoFar (left taken : Option (List ℕ)) (now : Standing) : Type 0 where
+  -- the bytes that were handed out or passed over
+  pub handed : List ℕ
+  pub replies : List Reply
+  pub consumed : Consumes left now.streams.left (handed ++ now.lines.ahead)
+  pub count : now.lines.handed ≡ length handed
+  pub few : taken_bytes now.lines ≤ 2 ^ 40
+  pub limit : now.lines.limit ≡ 2 ^ 40
+  pub whole : now.lines.ended ≡ false → IsWhole handed
+  pub uncut : ends_in_block handed ≡ false
+  pub known_end : KnowsEnd now.lines now.streams.left
+  pub before_limit : now.lines.ended ≡ true → taken_bytes now.lines < 2 ^ 40
+  pub run : IsRun empty (requests_of handed) replies
+  pub state : now.core ≡ state_in_end empty (requests_of handed) replies
+  pub changes : now.core.changes ≤ now.lines.handed
+  pub written : Appends taken now.streams.taken (texts replies)
+
+-- and that nothing is kept back, and no count of faults has fallen
+pub record Between (start : Streams) (now : Standing) : Type 0 where
+  pub so_far : SoFar start.left start.taken now
+  pub sent : start.sent ≡ start.taken → now.streams.sent ≡ now.streams.taken
+  pub reads_later : start.failed_reads ≤ now.streams.failed_reads
+  pub writes_later : start.failed_writes ≤ now.streams.failed_writes
