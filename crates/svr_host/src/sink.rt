@@ -1,4 +1,4 @@
-ghost use Rattle.std.specs.Prelude.{◌≡◌, ◌<◌, None, IfOk, IsOk, length};
+ghost use Rattle.std.specs.Prelude.{◌≡◌, ◌<◌, ℕ, List, Option, None, IfOk, IsOk, OnOk, length};
 ghost use Rattle.std.specs.Io.{WritesAtMost};
 ghost use Rattle.std.specs.Io.KnownBytes.{WriteAppends};
 ghost use Rattle.svr_edge.specs.Causes.{HasCause};
@@ -62,6 +62,7 @@ impl<'a, R: Print> Sink for StdSink<'a, R> {
 
     /// There is nothing to send: the runtime keeps no byte back between two writes.
     fn flush(&mut self) -> Result<(), Failed>
+        ensures sent { OnOk result (◌≡◌ {A = Option (List ℕ)} None None) }
         ensures cause { HasCause self.old self.new result }
         ensures answer { IsOk result }
         ensures next { self.new ≡ self.old }
