@@ -25,9 +25,9 @@ use Rattle.svr_schema.specs.Lawful.{IsComponent, IsFilter, IsOfKind, IsWeight, h
 use Rattle.serde_json.specs.Find.{get}
 use Rattle.svr_json.specs.Parts.{has_members}
 use Rattle.svr_schema.specs.Lookups.{column_at, column_of_kind, is_kind, table_at}
-use Rattle.svr_schema.specs.Parts.{is_within, text_at, whole_at}
+use Rattle.svr_schema.specs.Parts.{is_within, text_or_empty, whole_at}
 use Rattle.svr_schema.specs.Tables.{columns_of}
-use Rattle.svr_schema.proofs.Steps.{and_true, and_then-some, is_within-true, only_if-some, option_map-some, position-at}
+use Rattle.svr_schema.proofs.Steps.{and_true, and_then-some, form-some, is_within-true, only_if-some, option_map-some, position-at}
 
 same_kind : (a b : ColumnKind) → is_kind a b ≡ true → a ≡ b
 same_kind kind.Int kind.Int e = refl
@@ -78,7 +78,7 @@ IsOwn-from_some tables text_table d c e =
 
 other_table-some : (tables : List Table) (text_table : ℕ) (d : Data) (t : ℕ) → other_table tables text_table d ≡ Some t → t ≢ text_table
 other_table-some tables text_table d t e =
-    let one = and_then-some (table_at tables (text_at (codes "table") d)) _ t e in
+    let one = and_then-some (table_at tables (text_or_empty (codes "table") d)) _ t e in
     let two = only_if-some (not (one.0 == text_table)) one.0 t one.2 in
     λ same. grind (arith, nat_tests, two.0, two.1, same)
 
@@ -103,13 +103,15 @@ cell_of-some kind.Text d c e = let one = option_map-some cell.Text _ c e in ap k
 
 filter_of-some : (columns : List Column) (d : Data) (f : Filter) → filter_of columns d ≡ Some f → IsFilter columns (Some f)
 filter_of-some columns d f e =
-    let one = and_then-some (column_at columns (text_at (codes "column") d)) _ f e in
+    let form = form-some (has_members (codes "column" ∷ codes "equals" ∷ []) d) d _ f e in
+    let one = and_then-some (column_at columns (text_or_empty (codes "column") d)) _ f form.1 in
     let two = and_then-some (slice_get columns one.0) _ f one.2 in
     let three = and_then-some (get (codes "equals") d) _ f two.2 in
     let four = and_then-some (cell_of two.0.kind three.0) _ f three.2 in
-    let five = only_if-some (has_members (codes "column" ∷ codes "equals" ∷ []) d) (record { column = one.0; equals = four.0 }) f four.2 in
-    let is : IsFilter columns (Some (record { column = one.0; equals = four.0 })) = (two.0, two.1, cell_of-some two.0.kind three.0 four.0 four.1) in
-    subst (λ (g : Filter). IsFilter columns (Some g)) five.1 is
+    let made : Filter = record { column = one.0; equals = four.0 } in
+    let same : made ≡ f = cc four.2 in
+    let is : IsFilter columns (Some made) = (two.0, two.1, cell_of-some two.0.kind three.0 four.0 four.1) in
+    subst (λ (g : Filter). IsFilter columns (Some g)) same is
 
 filter_at-some : (columns : List Column) (o : Option Data) (f : Option Filter) → filter_at columns o ≡ Some f → IsFilter columns f
 filter_at-some columns None f e = let is : None ≡ f = cc in subst (IsFilter columns) is tt
@@ -145,7 +147,7 @@ IsOver-from_some tables text_table h d c e =
     let placed = Placed-from_some tables text_table h d p one.1 in
     let k = column_of_kind-IsOfKind kind.Int (columns_of tables p.table) _ p.by placed.by in
     let s = Stands-from_column tables p.table p.by k.0 k.1 in
-    let filter = subst (λ (cs : List Column). IsFilter cs four.0) s.columns (filter_at-some (columns_of tables p.table) _ four.0 four.1) in
+    let filter = subst (λ (cs : List Column). IsFilter cs four.0) s.columns (filter_at-some (columns_of tables p.table) (get (codes "filter") d) four.0 four.1) in
     subst (IsComponent tables text_table) is (record {
       there = s.there;
       at = s.at_is;

@@ -14,7 +14,7 @@ use Rattle.serde_json.specs.Find.{as_array, as_i64, as_number, as_str, as_u64, g
 use Rattle.serde_json.specs.Written.{has_float, items_have_float, members_have_float}
 use Rattle.svr_json.specs.Parts.{elements_of, has_members, items_in, names_in}
 use Rattle.svr_schema.specs.Lawful.{are_different}
-use Rattle.svr_schema.specs.Parts.{elements_at, text_at}
+use Rattle.svr_schema.specs.Parts.{elements_at, text_or_empty}
 use Rattle.svr_schema.proofs.Steps.{and_true, and_then-some, is_some-true}
 
 -- nothing at the member has a float
@@ -131,7 +131,7 @@ some_text : (o : Option (List ℕ)) → (unwrap_or o [] ≡ [] → ⊥) → (s :
 some_text None h = absurd (h refl)
 some_text (Some s) h = (s, refl)
 
-pub NoFloatAt-text : (d : Data) (name : List ℕ) → (text_at name d ≡ [] → ⊥) → NoFloatAt d name
+pub NoFloatAt-text : (d : Data) (name : List ℕ) → (text_or_empty name d ≡ [] → ⊥) → NoFloatAt d name
 NoFloatAt-text d name h =
     let s = some_text (option_and_then as_str (get name d)) h in
     NoFloatAt-by d name as_str s.0 (λ v e. string_no_float v s.0 e) s.1

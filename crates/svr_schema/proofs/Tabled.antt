@@ -6,11 +6,11 @@ use Rattle.std.proofs.lemmas.List.Elements.{All-from_recursion}
 use Rattle.serde_json.specs.Data.{Data}
 use Rattle.svr_schema.specs.declared.table.Table.{Table}
 use Rattle.svr_schema.specs.Lawful.{IsTable, begins_with_id}
-use Rattle.svr_schema.specs.Lookups.{AreFew}
 use Rattle.svr_schema.specs.Parts.{elements_at, is_list_at}
-use Rattle.svr_schema.specs.Rules.{are_named, begin_with_id, has_parts, has_tables, have_columns, have_different_columns, have_different_names, name_fault, table_fault}
+use Rattle.svr_schema.specs.Rules.{are_named, begin_with_id, has_parts, has_tables, have_columns, have_different_columns, have_different_names}
+use Rattle.svr_schema.specs.Steps.{AreFew, name_fault, table_fault}
 use Rattle.svr_schema.specs.Tables.{column_in, columns_differ, has_columns, is_named, table_in, tables_in}
-use Rattle.svr_schema.proofs.Steps.{and_true, nat_le-true, rule-none}
+use Rattle.svr_schema.proofs.Steps.{and_true, nat_le-true, first_fault-none}
 
 pub record TablesHold (d : Data) : Type 0 where
   pub parts : has_parts d ≡ true
@@ -24,13 +24,13 @@ pub record TablesHold (d : Data) : Type 0 where
 pub TablesHold-from_none : (d : Data) → table_fault d ≡ None → TablesHold d
 unfolding table_fault name_fault
 TablesHold-from_none d e =
-    let one = rule-none 1 _ _ e in
-    let two = rule-none 2 _ _ one.1 in
-    let three = rule-none 3 _ _ two.1 in
-    let four = rule-none 4 _ _ three.1 in
-    let five = rule-none 5 _ _ four.1 in
-    let six = rule-none 6 _ _ five.1 in
-    let seven = rule-none 7 _ _ six.1 in
+    let one = first_fault-none 1 _ _ e in
+    let two = first_fault-none 2 _ _ one.1 in
+    let three = first_fault-none 3 _ _ two.1 in
+    let four = first_fault-none 4 _ _ three.1 in
+    let five = first_fault-none 5 _ _ four.1 in
+    let six = first_fault-none 6 _ _ five.1 in
+    let seven = first_fault-none 7 _ _ six.1 in
     record { parts = one.0; tables = two.0; columns = three.0; named = four.0; names_differ = five.0; columns_differ = six.0; ids = seven.0 }
 
 -- the elements of a list that has so many

@@ -1,4 +1,4 @@
-use Rattle.std.proofs.Common.{codes, sym, ◌∙◌}
+use Rattle.std.proofs.Common.{sym, ◌∙◌}
 use Rattle.serde_json.specs.View.{view}
 use Rattle.svr_schema.proofs.Methods.{method_of_kind-other}
 use Rattle.svr_schema.proofs.read_method.read_kind.Goals as goal
