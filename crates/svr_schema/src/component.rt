@@ -2,14 +2,14 @@ use svr_edge::Text;
 use svr_num::Aggregate;
 
 /// The content of a row in one column.
-#[derive(Drop, PartialEq)]
+#[derive(Drop)]
 pub enum Cell {
     Int(i64),
     Text(Text),
 }
 
 /// Asks that one column of a row equals one value.
-#[derive(Drop, PartialEq)]
+#[derive(Drop)]
 pub struct Filter {
     /// The column's place in its table.
     pub column: u8,

@@ -34,12 +34,16 @@ fn has_columns(value: &Value) -> bool
     is_list_at(value, "columns", 1, 8) && are_columns(elements_at(value, "columns"))
 }
 
+fn is_table(value: &Value) -> bool
+    ensures { result ≡ is_table (view value.now) }
+{
+    has_members(value, &["columns", "name"])
+}
+
 fn are_tables(values: &[Value]) -> bool
     ensures { result ≡ list_all (λ value. is_table (view value)) values.now }
 {
-    values
-        .iter()
-        .all(|value| has_members(value, &["columns", "name"]))
+    values.iter().all(is_table)
 }
 
 fn has_tables(value: &Value) -> bool
