@@ -2,7 +2,7 @@ use svr_edge::Text;
 use svr_num::Aggregate;
 
 /// The content of a row in one column.
-#[derive(Drop)]
+#[derive(Debug, Drop)]
 pub enum Cell {
     Int(i64),
     Text(Text),
