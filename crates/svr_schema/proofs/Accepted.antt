@@ -121,7 +121,8 @@ pub record ComponentsHold (tables : List Table) (text_table : ℕ) (d : Data) : 
   pub weighted : list_all is_weighted (elements_at (codes "components") d) ≡ true
   pub filtered : list_all (is_filtered tables text_table) (elements_at (codes "components") d) ≡ true
 
-pub ComponentsHold-from_none : (tables : List Table) (text_table : ℕ) (d : Data) → component_fault tables text_table d ≡ None → ComponentsHold tables text_table d
+pub ComponentsHold-from_none : (tables : List Table) (text_table : ℕ) (d : Data) → component_fault tables text_table d ≡ None
+    → ComponentsHold tables text_table d
 unfolding component_fault
 ComponentsHold-from_none tables text_table d e =
     let one = first_fault-none 9 _ _ e in
@@ -149,7 +150,8 @@ made d p n m = record {
   method = m;
 }
 
-pub made-IsSchema : (d : Data) (p : TextPlace) (n : ℤ) (m : MethodSpec) → Before d p → divisor_in d ≡ Some n → method_in d ≡ Some m → IsSchema (made d p n m)
+pub made-IsSchema : (d : Data) (p : TextPlace) (n : ℤ) (m : MethodSpec) → Before d p → divisor_in d ≡ Some n → method_in d ≡ Some m
+    → IsSchema (made d p n m)
 made-IsSchema d p n m b g h =
     let tables = TablesHold-from_none d b.tables in
     let components = ComponentsHold-from_none (tables_in d) p.table d b.components in

@@ -35,7 +35,8 @@ same_kind kind.Text kind.Text e = refl
 same_kind kind.Int kind.Text e = cc
 same_kind kind.Text kind.Int e = cc
 
-pub column_of_kind-IsOfKind : (k : ColumnKind) (columns : List Column) (name : List ℕ) (i : ℕ) → column_of_kind k columns name ≡ Some i → IsOfKind k columns i
+pub column_of_kind-IsOfKind : (k : ColumnKind) (columns : List Column) (name : List ℕ) (i : ℕ) → column_of_kind k columns name ≡ Some i
+    → IsOfKind k columns i
 column_of_kind-IsOfKind k columns name i e =
     let found = position-at _ columns i e in
     (found.0, found.1, same_kind found.0.kind k (and_true _ _ found.2).1)
@@ -56,7 +57,8 @@ pub Stands-from_column : (tables : List Table) (at i : ℕ) (c : Column) → sli
 Stands-from_column tables at i c e = let s = stands (slice_get tables at) i c e in record { there = s.0; at_is = s.1; columns = s.2 }
 
 -- the column of a kind, of the table where it stands
-of_table : (k : ColumnKind) (tables : List Table) (at i : ℕ) (s : Stands tables at) → IsOfKind k (columns_of tables at) i → IsOfKind k s.there.columns i
+of_table : (k : ColumnKind) (tables : List Table) (at i : ℕ) (s : Stands tables at) → IsOfKind k (columns_of tables at) i
+    → IsOfKind k s.there.columns i
 of_table k tables at i s h = subst (λ (cs : List Column). IsOfKind k cs i) s.columns h
 
 weight_at-IsWeight : (name : List ℕ) (d : Data) (n : ℤ) → weight_at name d ≡ Some n → IsWeight n
@@ -66,7 +68,8 @@ weight_at-IsWeight name d n e =
     let range = is_within-true _ _ one.0 two.0 in
     subst IsWeight two.1 (record { low = range.0; high = range.1 })
 
-IsOwn-from_some : (tables : List Table) (text_table : ℕ) (d : Data) (c : Component) → own_in tables text_table d ≡ Some c → IsComponent tables text_table c
+IsOwn-from_some : (tables : List Table) (text_table : ℕ) (d : Data) (c : Component) → own_in tables text_table d ≡ Some c
+    → IsComponent tables text_table c
 IsOwn-from_some tables text_table d c e =
     let one = and_then-some (int_column tables text_table (codes "column") d) _ c e in
     let two = and_then-some (weight_at (codes "weight") d) _ c one.2 in
@@ -74,7 +77,12 @@ IsOwn-from_some tables text_table d c e =
     let k = column_of_kind-IsOfKind kind.Int (columns_of tables text_table) _ one.0 one.1 in
     let s = Stands-from_column tables text_table one.0 k.0 k.1 in
     subst (IsComponent tables text_table) is
-    (record { there = s.there; at = s.at_is; column_int = of_table kind.Int tables text_table one.0 s k; weighted = weight_at-IsWeight (codes "weight") d two.0 two.1 })
+    (record {
+      there = s.there;
+      at = s.at_is;
+      column_int = of_table kind.Int tables text_table one.0 s k;
+      weighted = weight_at-IsWeight (codes "weight") d two.0 two.1;
+    })
 
 other_table-some : (tables : List Table) (text_table : ℕ) (d : Data) (t : ℕ) → other_table tables text_table d ≡ Some t → t ≢ text_table
 other_table-some tables text_table d t e =
@@ -82,7 +90,8 @@ other_table-some tables text_table d t e =
     let two = only_if-some (not (one.0 == text_table)) one.0 t one.2 in
     λ same. grind (arith, nat_tests, two.0, two.1, same)
 
-aggregated-some : (tables : List Table) (table : ℕ) (h : Aggregate) (d : Data) (i : ℕ) (s : Stands tables table) → aggregated tables table h d ≡ Some i
+aggregated-some : (tables : List Table) (table : ℕ) (h : Aggregate) (d : Data) (i : ℕ) (s : Stands tables table)
+    → aggregated tables table h d ≡ Some i
     → MatchBool (has_column h) (IsOfKind kind.Int s.there.columns i) (i ≡ 0)
 aggregated-some tables table how.Count d i s e = cc
 aggregated-some tables table how.Sum d i s e = of_table kind.Int tables table i s (column_of_kind-IsOfKind kind.Int _ _ i e)
@@ -147,7 +156,9 @@ IsOver-from_some tables text_table h d c e =
     let placed = Placed-from_some tables text_table h d p one.1 in
     let k = column_of_kind-IsOfKind kind.Int (columns_of tables p.table) _ p.by placed.by in
     let s = Stands-from_column tables p.table p.by k.0 k.1 in
-    let filter = subst (λ (cs : List Column). IsFilter cs four.0) s.columns (filter_at-some (columns_of tables p.table) (get (codes "filter") d) four.0 four.1) in
+    let filter =
+    subst (λ (cs : List Column). IsFilter cs four.0) s.columns
+    (filter_at-some (columns_of tables p.table) (get (codes "filter") d) four.0 four.1) in
     subst (IsComponent tables text_table) is (record {
       there = s.there;
       at = s.at_is;
@@ -172,7 +183,8 @@ listed : (P : Component → Type 0) (o : Option Component) (rest : List Componen
 listed P None rest h r = r
 listed P (Some c) rest h r = (h c refl, r)
 
-pub AllComponents : (tables : List Table) (text_table : ℕ) (es : List Data) → AllByRecursion (IsComponent tables text_table) (filter_map (component_in tables text_table) es)
+pub AllComponents : (tables : List Table) (text_table : ℕ) (es : List Data)
+    → AllByRecursion (IsComponent tables text_table) (filter_map (component_in tables text_table) es)
 AllComponents tables text_table [] = tt
 AllComponents tables text_table (e ∷ es) =
     listed (IsComponent tables text_table) (component_in tables text_table e) (filter_map (component_in tables text_table) es)

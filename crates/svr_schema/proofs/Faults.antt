@@ -19,7 +19,8 @@ abbrev unless : Option ℕ → Result Schema ℕ → Result Schema ℕ
 unless None later = later
 unless (Some n) later = Err n
 
-unless-first_fault : (n : ℕ) (b : Bool) (f : Option ℕ) (later : Result Schema ℕ) → unless (first_fault n b f) later ≡ rule n b (unless f later)
+unless-first_fault : (n : ℕ) (b : Bool) (f : Option ℕ) (later : Result Schema ℕ)
+    → unless (first_fault n b f) later ≡ rule n b (unless f later)
 unless-first_fault n true f later = refl
 unless-first_fault n false f later = refl
 
@@ -53,7 +54,8 @@ abbrev behind_tables : Data → Result Schema ℕ
 behind_tables d = rule_gives 8 (text_place (tables_in d) d) (behind_text d)
 
 names-steps : (tables : List Table) (later : Result Schema ℕ) → unless (name_fault tables) later
-    ≡ rule 4 (are_named tables) (rule 5 (have_different_names tables) (rule 6 (have_different_columns tables) (rule 7 (begin_with_id tables) later)))
+    ≡ rule 4 (are_named tables)
+    (rule 5 (have_different_names tables) (rule 6 (have_different_columns tables) (rule 7 (begin_with_id tables) later)))
 unfolding name_fault
 names-steps tables later =
     let four = are_named tables in

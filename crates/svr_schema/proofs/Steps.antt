@@ -24,7 +24,8 @@ first_fault-none n true later e = (refl, e)
 first_fault-none n false later e = cc
 
 -- a step that led to a value gave one
-pub and_then-some : {A B : Type 0} (o : Option A) (f : A → Option B) (b : B) → option_and_then f o ≡ Some b → (a : A) × (o ≡ Some a) × (f a ≡ Some b)
+pub and_then-some : {A B : Type 0} (o : Option A) (f : A → Option B) (b : B)
+    → option_and_then f o ≡ Some b → (a : A) × (o ≡ Some a) × (f a ≡ Some b)
 and_then-some None f b e = cc
 and_then-some (Some a) f b e = (a, refl, e)
 
@@ -33,7 +34,8 @@ only_if-some true x y e = (refl, cc)
 only_if-some false x y e = cc
 
 -- a test that passed before a step
-pub form-some : {A B : Type 0} (t : Bool) (x : A) (f : A → Option B) (b : B) → option_and_then f (only_if t x) ≡ Some b → (t ≡ true) × (f x ≡ Some b)
+pub form-some : {A B : Type 0} (t : Bool) (x : A) (f : A → Option B) (b : B)
+    → option_and_then f (only_if t x) ≡ Some b → (t ≡ true) × (f x ≡ Some b)
 form-some true x f b e = (refl, e)
 form-some false x f b e = cc
 
@@ -52,7 +54,8 @@ is_some-true None e = absurd (false≢true e)
 is_some-true (Some a) e = (a, refl)
 
 -- an element that passes stands at the place that was found
-pub position-at : {X : Type 0} (p : X → Bool) (xs : List X) (i : ℕ) → position p xs ≡ Some i → (x : X) × (slice_get xs i ≡ Some x) × (p x ≡ true)
+pub position-at : {X : Type 0} (p : X → Bool) (xs : List X) (i : ℕ)
+    → position p xs ≡ Some i → (x : X) × (slice_get xs i ≡ Some x) × (p x ≡ true)
 position-at p [] i e = cc
 position-at p (x ∷ xs) i e =
     let found = position-Some p (x ∷ xs) i x e in

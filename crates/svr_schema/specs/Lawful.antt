@@ -101,7 +101,8 @@ pub record IsOwn (tables : List Table) (text_table column : ℕ) (weight : ℤ) 
 -- a component whose tables, columns and numbers are as the rules want them
 abbrev pub IsComponent : List Table → ℕ → Component → Type 0
 IsComponent tables text_table (Own column weight) = IsOwn tables text_table column weight
-IsComponent tables text_table (Over how table by column weight empty filter) = IsOver tables text_table how table by column weight empty filter
+IsComponent tables text_table (Over how table by column weight empty filter) =
+    IsOver tables text_table how table by column weight empty filter
 
 -- a method whose numbers are in their ranges
 abbrev pub IsMethod : MethodSpec → Type 0

@@ -1,5 +1,6 @@
 -- The rules of a schema, each over the whole value, and the schema that a value says.
-use Rattle.std.specs.Prelude.{ℕ, ◌&&◌, Bool, ℤ, pos, List, [], ◌∷◌, length, map, nat_le, codes, if◌then◌else◌, Option, Some, None, Result, Ok, Err}
+use Rattle.std.specs.Prelude.{ℕ, ◌&&◌, Bool, ℤ, pos, List, [], ◌∷◌, length}
+use Rattle.std.specs.Prelude.{map, nat_le, codes, if◌then◌else◌, Option, Some, None, Result, Ok, Err}
 use Rattle.std.specs.List.{list_all}
 use Rattle.std.specs.Str.{bytes_eq}
 use Rattle.serde_json.specs.Data.{Data}

@@ -16,7 +16,8 @@ use Rattle.svr_schema.specs.Steps.{AreFew, component_fault, table_fault}
 use Rattle.svr_schema.specs.Tables.{tables_in}
 use Rattle.svr_schema.proofs.Accepted.{Before, ComponentsHold-from_none, divisor-range, made, made-IsSchema}
 use Rattle.svr_schema.proofs.Complete.{complete}
-use Rattle.svr_schema.proofs.Faults.{Tells-handed, failing-components, failing-divisor, failing-length, failing-method, failing-tables, failing-text, rule-tells, schema_in-ok}
+use Rattle.svr_schema.proofs.Faults.{Tells-handed, failing-components, failing-divisor, failing-length}
+use Rattle.svr_schema.proofs.Faults.{failing-method, failing-tables, failing-text, rule-tells, schema_in-ok}
 use Rattle.svr_schema.proofs.Plain.{schema_no_float}
 use Rattle.svr_schema.proofs.Tabled.{AreFew-tables, TablesHold-from_none}
 use Rattle.svr_schema.proofs.schema.read_schema.Goals as goal
@@ -121,7 +122,8 @@ returns-clause-schema c =
     let k = (goal.at.returns-clause-schema c).In_ok-components in
     let divisor = sym c.in-Some-read_divisor.ensures in
     let short : has_short_text d ≡ true = sym c.in_ok-has_short_text.ensures ∙ c.if-not-branch.false in
-    let is = of_parts-made d p n _ m c.in_ok-tables.tables c.in_ok-components.components c.in_ok-tables.ensures.ok.1 (parts k) (divisor-kept d n divisor) in
+    let is = of_parts-made d p n _ m c.in_ok-tables.tables c.in_ok-components.components c.in_ok-tables.ensures.ok.1 (parts k)
+    (divisor-kept d n divisor) in
     schema_in-ok d p n m (before k) divisor (sym c.in-Some-read_method.ensures) short ∙ ap (λ s. Ok s) (sym is)
 
 pub returns-clause-complete : goal.returns-clause-complete
@@ -141,5 +143,6 @@ returns-clause-lawful c =
     let m = c.in-Some-read_method.method in
     let k = (goal.at.returns-clause-lawful c).In_ok-components in
     let divisor = sym c.in-Some-read_divisor.ensures in
-    let is = of_parts-made d p n _ m c.in_ok-tables.tables c.in_ok-components.components c.in_ok-tables.ensures.ok.1 (parts k) (divisor-kept d n divisor) in
+    let is = of_parts-made d p n _ m c.in_ok-tables.tables c.in_ok-components.components c.in_ok-tables.ensures.ok.1 (parts k)
+    (divisor-kept d n divisor) in
     subst IsSchema (sym is) (made-IsSchema d p n m (before k) divisor (sym c.in-Some-read_method.ensures))
