@@ -23,7 +23,7 @@ use Rattle.svr_schema.specs.declared.method.MethodSpec.{MethodSpec}
 use Rattle.svr_schema.specs.declared.method.MethodSpec.TheVariants as method
 use Rattle.svr_schema.specs.declared.schema.Schema.{Schema}
 use Rattle.svr_schema.specs.Lookups.{table_at}
-use Rattle.svr_schema.specs.Rules.{failing_rule, schema_in}
+use Rattle.svr_schema.specs.Rules.{schema_in}
 use Rattle.svr_tokens.specs.Tokens.{tokens_of}
 use Rattle.svr_core.specs.Answers.{answer_of}
 use Rattle.svr_core.specs.State.{Catalog, State}
@@ -51,17 +51,15 @@ served_so_far s =
     else if not (is_plain s.method) then refused (refusal.BadSchema 14)
     else changes_to (record { schema = s; tables = map no_rows s.tables })
 
-abbrev pub by_schema : Option Schema → Outcome
-by_schema None = refused (refusal.BadSchema 1)
-by_schema (Some s) = served_so_far s
+-- the schema that a value says, or the first rule that fails
+abbrev pub by_rules : Result Schema ℕ → Outcome
+by_rules (Err n) = refused (refusal.BadSchema n)
+by_rules (Ok s) = served_so_far s
 
-abbrev pub by_rule : Option ℕ → Data → Outcome
-by_rule (Some n) d = refused (refusal.BadSchema n)
-by_rule None d = by_schema (schema_in d)
-
+-- a schema is set once
 abbrev pub schema_outcome : Option Catalog → Data → Outcome
 schema_outcome (Some c) d = refused refusal.SchemaSet
-schema_outcome None d = by_rule (failing_rule d) d
+schema_outcome None d = by_rules (schema_in d)
 
 -- ---- changes
 

@@ -26,7 +26,8 @@ pub names_in-members_view : (es : List (String Global × Value)) → names_in (m
 names_in-members_view [] = refl
 names_in-members_view (e ∷ es) = ap (λ names. string_bytes e.0 ∷ names) (names_in-members_view es)
 
-pub has_members-object : (d : Data) (ms : Members) (names : List (List ℕ)) → Some ms ≡ as_object d → has_members names d ≡ pointwise bytes_eq (names_in ms) names
+pub has_members-object : (d : Data) (ms : Members) (names : List (List ℕ)) → Some ms ≡ as_object d
+    → has_members names d ≡ pointwise bytes_eq (names_in ms) names
 has_members-object (object ns) ms names e = let same : ms ≡ ns = cc in ap (λ x. pointwise bytes_eq (names_in x) names) (sym same)
 has_members-object null ms names e = cc
 has_members-object (boolean b) ms names e = cc
@@ -36,7 +37,9 @@ has_members-object (array ds) ms names e = cc
 
 pub has_only-object : (d : Data) (ms : Members) (names : List (List ℕ)) → Some ms ≡ as_object d
     → has_only names d ≡ list_all (λ name. list_any (bytes_eq name) names) (names_in ms)
-has_only-object (object ns) ms names e = let same : ms ≡ ns = cc in ap (λ x. list_all (λ name. list_any (bytes_eq name) names) (names_in x)) (sym same)
+has_only-object (object ns) ms names e =
+    let same : ms ≡ ns = cc in
+    ap (λ x. list_all (λ name. list_any (bytes_eq name) names) (names_in x)) (sym same)
 has_only-object null ms names e = cc
 has_only-object (boolean b) ms names e = cc
 has_only-object (number n) ms names e = cc

@@ -1,16 +1,17 @@
--- Parts of a JSON value.
-use Rattle.std.specs.Prelude.{ℕ, Bool, false, List, [], ◌∷◌, Option, option_and_then}
+-- Parts of a JSON value, and steps that may find nothing.
+use Rattle.std.specs.Prelude.{ℕ, Bool, false, List, [], ◌∷◌, if◌then◌else◌, Option, Some, None, option_and_then}
 use Rattle.std.specs.Cmp.Lexicographic.{pointwise}
 use Rattle.std.specs.List.{list_all, list_any}
 use Rattle.std.specs.Str.{bytes_eq}
 use Rattle.serde_json.specs.Data.{Data, array, object, Items, no_items, item, Members, no_members, member}
 use Rattle.serde_json.specs.Find.{get, as_str}
 
+-- the values in an array, in their order
 abbrev pub items_in : Items → List Data
 items_in no_items = []
 items_in (item d ds) = d ∷ items_in ds
 
--- the elements of an array, none where the value is none
+-- the elements of an array; none where the value is no array
 abbrev pub elements_of : Data → List Data
 elements_of (array ds) = items_in ds
 elements_of _ = []
@@ -31,5 +32,14 @@ has_only names (object ms) = list_all (λ name. list_any (bytes_eq name) names) 
 has_only names _ = false
 
 -- the string at a member
-abbrev pub text_of : List ℕ → Data → Option (List ℕ)
-text_of name d = option_and_then as_str (get name d)
+abbrev pub text_at : List ℕ → Data → Option (List ℕ)
+text_at name d = option_and_then as_str (get name d)
+
+-- a step that goes on where the one before it found something
+infixl 10 ◌>>=◌
+abbrev pub ◌>>=◌ : {A B : Type 0} → Option A → (A → Option B) → Option B
+found >>= next = option_and_then next found
+
+-- x, if the test holds
+abbrev pub only_if : {A : Type 0} → Bool → A → Option A
+only_if holds x = if holds then Some x else None

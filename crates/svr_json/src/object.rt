@@ -4,7 +4,7 @@ ghost use Rattle.std.specs.Cmp.Lexicographic.{pointwise};
 ghost use Rattle.std.specs.List.{list_all, list_any};
 ghost use Rattle.std.specs.Str.{bytes_eq};
 ghost use Rattle.serde_json.specs.View.{view};
-ghost use Rattle.svr_json.specs.Parts.{has_members, has_only, text_of};
+ghost use Rattle.svr_json.specs.Parts.{has_members, has_only, text_at};
 
 use serde_json::{Map, Value};
 
@@ -60,7 +60,7 @@ pub fn has_only(value: &Value, names: &[&str]) -> bool
 
 /// The string that an object has as a member.
 pub fn text_at<'a>(value: &'a Value, name: &str) -> Option<&'a str>
-    ensures { option_map (λ text. text.now) result ≡ text_of name.now (view value.now) }
+    ensures { option_map (λ text. text.now) result ≡ text_at name.now (view value.now) }
 {
     value.get(name)?.as_str()
 }

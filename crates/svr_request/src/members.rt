@@ -3,8 +3,8 @@ ghost use Rattle.std.specs.Str.{bytes_eq};
 ghost use Rattle.serde_json.specs.Data.{object};
 ghost use Rattle.serde_json.specs.Find.{as_array, as_str, get, get_member};
 ghost use Rattle.serde_json.specs.View.{items_view, members_view, view};
-ghost use Rattle.svr_json.specs.Parts.{text_of};
-ghost use Rattle.svr_request.specs.Requests.{given_of, row_of, table_and_row};
+ghost use Rattle.svr_json.specs.Parts.{text_at};
+ghost use Rattle.svr_request.specs.Requests.{given_of, given_row, table_and_row};
 
 use serde_json::{Map, Value};
 use std::alloc::Global;
@@ -52,7 +52,7 @@ fn values_from(value: Value) -> Option<Vec<Value>>
 
 /// Takes the string that an object has as a member.
 pub(crate) fn take_text(value: Value, name: &str) -> Option<Text>
-    ensures { result ≡ text_of name.now (view value) }
+    ensures { result ≡ text_at name.now (view value) }
 {
     text_from(take_member(value, name)?)
 }
@@ -73,7 +73,7 @@ fn given(value: Value) -> Given
 
 /// Takes the string that an object has as `table` and the array that it has as `row`.
 fn take_table_and_values(mut members: Map<String, Value>) -> Option<(Text, Vec<Value>)>
-    ensures { option_map (λ both. (both.0, row_of (items_view both.1.items))) result ≡ table_and_row (object (members_view members.entries)) }
+    ensures { option_map (λ both. (both.0, given_row (items_view both.1.items))) result ≡ table_and_row (object (members_view members.entries)) }
 {
     let table = text_from(take_out(&mut members, "table")?)?;
     let values = values_from(take_out(&mut members, "row")?)?;

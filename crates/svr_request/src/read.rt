@@ -1,6 +1,6 @@
 ghost use Rattle.std.specs.Prelude.{◌≡◌, IfOk, ok_or, option_map};
 ghost use Rattle.serde_json.specs.View.{view};
-ghost use Rattle.svr_request.specs.Requests.{alone_in, asked_of, block_in, block_of, bytes_in, delete_in, header_in, id_in, insert_in, k_in, load_in, merge_slice_in, mode_in, request_of, schema_in, search_in, seen, seen_or_refused, table_and_row_in, terms_in, update_in};
+ghost use Rattle.svr_request.specs.Requests.{asked_of, block_in, block_of, bytes_in, delete_request, deleted_id, header_in, insert_request, k_in, load_request, lone_request, merge_slice_request, mode_in, request_of, schema_request, search_request, seen, seen_or_refused, slice_terms, table_and_row_in, update_request};
 
 use crate::members::{take_member, take_table_and_row, take_text};
 use crate::refusal::Refusal;
@@ -22,7 +22,7 @@ const BLOCK_BYTES: u64 = 8_388_608;
 const MOST_TERMS: u64 = 1_000;
 
 fn read_id(value: &Value) -> Option<DocId>
-    ensures { result ≡ id_in (view value.now) }
+    ensures { result ≡ deleted_id (view value.now) }
 {
     match value.get("id")?.as_u64() {
         Some(id) if id < ID_END => Some(id),
@@ -31,7 +31,7 @@ fn read_id(value: &Value) -> Option<DocId>
 }
 
 fn read_terms(value: &Value) -> Option<u32>
-    ensures { result ≡ terms_in (view value.now) }
+    ensures { result ≡ slice_terms (view value.now) }
 {
     match value.get("terms")?.as_u64() {
         Some(terms) if 1 <= terms && terms <= MOST_TERMS => Some(terms as u32),
@@ -80,7 +80,7 @@ fn read_k(value: Option<&Value>) -> Option<i128>
 }
 
 fn schema_request(value: Value) -> Option<Request>
-    ensures { option_map seen result ≡ schema_in (view value) }
+    ensures { option_map seen result ≡ schema_request (view value) }
 {
     if !has_only(&value, &["op", "schema"]) {
         return None;
@@ -90,7 +90,7 @@ fn schema_request(value: Value) -> Option<Request>
 }
 
 /// The table and the row of an `insert` or an `update`.
-fn table_and_row(alloc: Global, value: Value) -> Result<Option<(Text, Items<Given>)>, Memory>
+fn read_table_and_row(alloc: Global, value: Value) -> Result<Option<(Text, Items<Given>)>, Memory>
     ensures { IfOk result (λ both. both ≡ table_and_row_in (view value)) }
 {
     if !has_only(&value, &["op", "row", "table"]) {
@@ -100,21 +100,21 @@ fn table_and_row(alloc: Global, value: Value) -> Result<Option<(Text, Items<Give
 }
 
 fn insert_request(alloc: Global, value: Value) -> Result<Option<Request>, Memory>
-    ensures { IfOk result (λ request. option_map seen request ≡ insert_in (view value)) }
+    ensures { IfOk result (λ request. option_map seen request ≡ insert_request (view value)) }
 {
-    let both = table_and_row(alloc, value)?;
+    let both = read_table_and_row(alloc, value)?;
     Ok(both.map(|(table, row)| Request::Insert { table, row }))
 }
 
 fn update_request(alloc: Global, value: Value) -> Result<Option<Request>, Memory>
-    ensures { IfOk result (λ request. option_map seen request ≡ update_in (view value)) }
+    ensures { IfOk result (λ request. option_map seen request ≡ update_request (view value)) }
 {
-    let both = table_and_row(alloc, value)?;
+    let both = read_table_and_row(alloc, value)?;
     Ok(both.map(|(table, row)| Request::Update { table, row }))
 }
 
 fn delete_request(value: Value) -> Option<Request>
-    ensures { option_map seen result ≡ delete_in (view value) }
+    ensures { option_map seen result ≡ delete_request (view value) }
 {
     if !has_only(&value, &["id", "op", "table"]) {
         return None;
@@ -125,7 +125,7 @@ fn delete_request(value: Value) -> Option<Request>
 }
 
 fn load_request(value: Value) -> Option<Request>
-    ensures { option_map seen result ≡ load_in (view value) }
+    ensures { option_map seen result ≡ load_request (view value) }
 {
     if !has_only(&value, &["bytes", "header", "op", "table"]) {
         return None;
@@ -139,7 +139,7 @@ fn load_request(value: Value) -> Option<Request>
 }
 
 fn search_request(value: Value) -> Option<Request>
-    ensures { option_map seen result ≡ search_in (view value) }
+    ensures { option_map seen result ≡ search_request (view value) }
 {
     if !has_only(&value, &["k", "mode", "op", "query"]) {
         return None;
@@ -151,8 +151,8 @@ fn search_request(value: Value) -> Option<Request>
 }
 
 /// The request of an op that has no member of its own.
-fn alone(value: &Value, request: Request) -> Option<Request>
-    ensures { option_map seen result ≡ alone_in (seen request) (view value.now) }
+fn lone_request(value: &Value, request: Request) -> Option<Request>
+    ensures { option_map seen result ≡ lone_request (seen request) (view value.now) }
 {
     if has_only(value, &["op"]) {
         Some(request)
@@ -162,7 +162,7 @@ fn alone(value: &Value, request: Request) -> Option<Request>
 }
 
 fn merge_slice_request(value: &Value) -> Option<Request>
-    ensures { option_map seen result ≡ merge_slice_in (view value.now) }
+    ensures { option_map seen result ≡ merge_slice_request (view value.now) }
 {
     if !has_only(value, &["op", "terms"]) {
         return None;
@@ -172,7 +172,7 @@ fn merge_slice_request(value: &Value) -> Option<Request>
 }
 
 /// A request whose members are right, or `BadShape`.
-fn shaped(request: Option<Request>) -> Result<Request, Refusal>
+fn or_bad_shape(request: Option<Request>) -> Result<Request, Refusal>
     ensures { seen_or_refused result ≡ ok_or (option_map seen request) Refusal.BadShape }
 {
     request.ok_or(Refusal::BadShape)
@@ -183,16 +183,16 @@ fn request_in(alloc: Global, value: Value) -> Result<Result<Request, Refusal>, M
     ensures { IfOk result (λ asked. seen_or_refused asked ≡ asked_of (view value)) }
 {
     match text_at(&value, "op") {
-        Some("schema") => Ok(shaped(schema_request(value))),
-        Some("insert") => Ok(shaped(insert_request(alloc, value)?)),
-        Some("update") => Ok(shaped(update_request(alloc, value)?)),
-        Some("delete") => Ok(shaped(delete_request(value))),
-        Some("load") => Ok(shaped(load_request(value))),
-        Some("search") => Ok(shaped(search_request(value))),
-        Some("merge") => Ok(shaped(alone(&value, Request::Merge))),
-        Some("merge-begin") => Ok(shaped(alone(&value, Request::MergeBegin))),
-        Some("merge-slice") => Ok(shaped(merge_slice_request(&value))),
-        Some("merge-publish") => Ok(shaped(alone(&value, Request::MergePublish))),
+        Some("schema") => Ok(or_bad_shape(schema_request(value))),
+        Some("insert") => Ok(or_bad_shape(insert_request(alloc, value)?)),
+        Some("update") => Ok(or_bad_shape(update_request(alloc, value)?)),
+        Some("delete") => Ok(or_bad_shape(delete_request(value))),
+        Some("load") => Ok(or_bad_shape(load_request(value))),
+        Some("search") => Ok(or_bad_shape(search_request(value))),
+        Some("merge") => Ok(or_bad_shape(lone_request(&value, Request::Merge))),
+        Some("merge-begin") => Ok(or_bad_shape(lone_request(&value, Request::MergeBegin))),
+        Some("merge-slice") => Ok(or_bad_shape(merge_slice_request(&value))),
+        Some("merge-publish") => Ok(or_bad_shape(lone_request(&value, Request::MergePublish))),
         _ => Ok(Err(Refusal::UnknownOp)),
     }
 }

@@ -25,9 +25,9 @@ use Rattle.svr_schema.specs.Lawful.{IsComponent, IsFilter, IsOfKind, IsWeight, h
 use Rattle.serde_json.specs.Find.{get}
 use Rattle.svr_json.specs.Parts.{has_members}
 use Rattle.svr_schema.specs.Lookups.{column_at, column_of_kind, is_kind, table_at}
-use Rattle.svr_schema.specs.Parts.{is_within, text_at, whole_at}
+use Rattle.svr_schema.specs.Parts.{is_within, text_or_empty, whole_at}
 use Rattle.svr_schema.specs.Tables.{columns_of}
-use Rattle.svr_schema.proofs.Steps.{and_true, and_then-some, is_within-true, only_if-some, option_map-some, position-at}
+use Rattle.svr_schema.proofs.Steps.{and_true, and_then-some, form-some, is_within-true, only_if-some, option_map-some, position-at}
 
 same_kind : (a b : ColumnKind) → is_kind a b ≡ true → a ≡ b
 same_kind kind.Int kind.Int e = refl
@@ -35,7 +35,8 @@ same_kind kind.Text kind.Text e = refl
 same_kind kind.Int kind.Text e = cc
 same_kind kind.Text kind.Int e = cc
 
-pub column_of_kind-IsOfKind : (k : ColumnKind) (columns : List Column) (name : List ℕ) (i : ℕ) → column_of_kind k columns name ≡ Some i → IsOfKind k columns i
+pub column_of_kind-IsOfKind : (k : ColumnKind) (columns : List Column) (name : List ℕ) (i : ℕ) → column_of_kind k columns name ≡ Some i
+    → IsOfKind k columns i
 column_of_kind-IsOfKind k columns name i e =
     let found = position-at _ columns i e in
     (found.0, found.1, same_kind found.0.kind k (and_true _ _ found.2).1)
@@ -56,7 +57,8 @@ pub Stands-from_column : (tables : List Table) (at i : ℕ) (c : Column) → sli
 Stands-from_column tables at i c e = let s = stands (slice_get tables at) i c e in record { there = s.0; at_is = s.1; columns = s.2 }
 
 -- the column of a kind, of the table where it stands
-of_table : (k : ColumnKind) (tables : List Table) (at i : ℕ) (s : Stands tables at) → IsOfKind k (columns_of tables at) i → IsOfKind k s.there.columns i
+of_table : (k : ColumnKind) (tables : List Table) (at i : ℕ) (s : Stands tables at) → IsOfKind k (columns_of tables at) i
+    → IsOfKind k s.there.columns i
 of_table k tables at i s h = subst (λ (cs : List Column). IsOfKind k cs i) s.columns h
 
 weight_at-IsWeight : (name : List ℕ) (d : Data) (n : ℤ) → weight_at name d ≡ Some n → IsWeight n
@@ -66,7 +68,8 @@ weight_at-IsWeight name d n e =
     let range = is_within-true _ _ one.0 two.0 in
     subst IsWeight two.1 (record { low = range.0; high = range.1 })
 
-IsOwn-from_some : (tables : List Table) (text_table : ℕ) (d : Data) (c : Component) → own_in tables text_table d ≡ Some c → IsComponent tables text_table c
+IsOwn-from_some : (tables : List Table) (text_table : ℕ) (d : Data) (c : Component) → own_in tables text_table d ≡ Some c
+    → IsComponent tables text_table c
 IsOwn-from_some tables text_table d c e =
     let one = and_then-some (int_column tables text_table (codes "column") d) _ c e in
     let two = and_then-some (weight_at (codes "weight") d) _ c one.2 in
@@ -74,15 +77,21 @@ IsOwn-from_some tables text_table d c e =
     let k = column_of_kind-IsOfKind kind.Int (columns_of tables text_table) _ one.0 one.1 in
     let s = Stands-from_column tables text_table one.0 k.0 k.1 in
     subst (IsComponent tables text_table) is
-    (record { there = s.there; at = s.at_is; column_int = of_table kind.Int tables text_table one.0 s k; weighted = weight_at-IsWeight (codes "weight") d two.0 two.1 })
+    (record {
+      there = s.there;
+      at = s.at_is;
+      column_int = of_table kind.Int tables text_table one.0 s k;
+      weighted = weight_at-IsWeight (codes "weight") d two.0 two.1;
+    })
 
 other_table-some : (tables : List Table) (text_table : ℕ) (d : Data) (t : ℕ) → other_table tables text_table d ≡ Some t → t ≢ text_table
 other_table-some tables text_table d t e =
-    let one = and_then-some (table_at tables (text_at (codes "table") d)) _ t e in
+    let one = and_then-some (table_at tables (text_or_empty (codes "table") d)) _ t e in
     let two = only_if-some (not (one.0 == text_table)) one.0 t one.2 in
     λ same. grind (arith, nat_tests, two.0, two.1, same)
 
-aggregated-some : (tables : List Table) (table : ℕ) (h : Aggregate) (d : Data) (i : ℕ) (s : Stands tables table) → aggregated tables table h d ≡ Some i
+aggregated-some : (tables : List Table) (table : ℕ) (h : Aggregate) (d : Data) (i : ℕ) (s : Stands tables table)
+    → aggregated tables table h d ≡ Some i
     → MatchBool (has_column h) (IsOfKind kind.Int s.there.columns i) (i ≡ 0)
 aggregated-some tables table how.Count d i s e = cc
 aggregated-some tables table how.Sum d i s e = of_table kind.Int tables table i s (column_of_kind-IsOfKind kind.Int _ _ i e)
@@ -103,13 +112,15 @@ cell_of-some kind.Text d c e = let one = option_map-some cell.Text _ c e in ap k
 
 filter_of-some : (columns : List Column) (d : Data) (f : Filter) → filter_of columns d ≡ Some f → IsFilter columns (Some f)
 filter_of-some columns d f e =
-    let one = and_then-some (column_at columns (text_at (codes "column") d)) _ f e in
+    let form = form-some (has_members (codes "column" ∷ codes "equals" ∷ []) d) d _ f e in
+    let one = and_then-some (column_at columns (text_or_empty (codes "column") d)) _ f form.1 in
     let two = and_then-some (slice_get columns one.0) _ f one.2 in
     let three = and_then-some (get (codes "equals") d) _ f two.2 in
     let four = and_then-some (cell_of two.0.kind three.0) _ f three.2 in
-    let five = only_if-some (has_members (codes "column" ∷ codes "equals" ∷ []) d) (record { column = one.0; equals = four.0 }) f four.2 in
-    let is : IsFilter columns (Some (record { column = one.0; equals = four.0 })) = (two.0, two.1, cell_of-some two.0.kind three.0 four.0 four.1) in
-    subst (λ (g : Filter). IsFilter columns (Some g)) five.1 is
+    let made : Filter = record { column = one.0; equals = four.0 } in
+    let same : made ≡ f = cc four.2 in
+    let is : IsFilter columns (Some made) = (two.0, two.1, cell_of-some two.0.kind three.0 four.0 four.1) in
+    subst (λ (g : Filter). IsFilter columns (Some g)) same is
 
 filter_at-some : (columns : List Column) (o : Option Data) (f : Option Filter) → filter_at columns o ≡ Some f → IsFilter columns f
 filter_at-some columns None f e = let is : None ≡ f = cc in subst (IsFilter columns) is tt
@@ -145,7 +156,9 @@ IsOver-from_some tables text_table h d c e =
     let placed = Placed-from_some tables text_table h d p one.1 in
     let k = column_of_kind-IsOfKind kind.Int (columns_of tables p.table) _ p.by placed.by in
     let s = Stands-from_column tables p.table p.by k.0 k.1 in
-    let filter = subst (λ (cs : List Column). IsFilter cs four.0) s.columns (filter_at-some (columns_of tables p.table) _ four.0 four.1) in
+    let filter =
+    subst (λ (cs : List Column). IsFilter cs four.0) s.columns
+    (filter_at-some (columns_of tables p.table) (get (codes "filter") d) four.0 four.1) in
     subst (IsComponent tables text_table) is (record {
       there = s.there;
       at = s.at_is;
@@ -170,7 +183,8 @@ listed : (P : Component → Type 0) (o : Option Component) (rest : List Componen
 listed P None rest h r = r
 listed P (Some c) rest h r = (h c refl, r)
 
-pub AllComponents : (tables : List Table) (text_table : ℕ) (es : List Data) → AllByRecursion (IsComponent tables text_table) (filter_map (component_in tables text_table) es)
+pub AllComponents : (tables : List Table) (text_table : ℕ) (es : List Data)
+    → AllByRecursion (IsComponent tables text_table) (filter_map (component_in tables text_table) es)
 AllComponents tables text_table [] = tt
 AllComponents tables text_table (e ∷ es) =
     listed (IsComponent tables text_table) (component_in tables text_table e) (filter_map (component_in tables text_table) es)

@@ -9,12 +9,13 @@ use Rattle.std.proofs.lemmas.Bool.{false≢true}
 use Rattle.std.proofs.lemmas.Cmp.{nat_list_cmp_total, tied_itself}
 use Rattle.std.proofs.lemmas.Map.Text.{is_eq-slice_cmp}
 use Rattle.std.proofs.lemmas.Slice.Eq.{bytes_eq-Decides}
-use Rattle.serde_json.specs.Data.{Data, Num, unsigned, negative, float, null, boolean, number, string, array, object, Items, no_items, item, Members, no_members, member}
+use Rattle.serde_json.specs.Data.{Data, Num, unsigned, negative, float, null, boolean, number}
+use Rattle.serde_json.specs.Data.{string, array, object, Items, no_items, item, Members, no_members, member}
 use Rattle.serde_json.specs.Find.{as_array, as_i64, as_number, as_str, as_u64, get, get_member}
 use Rattle.serde_json.specs.Written.{has_float, items_have_float, members_have_float}
 use Rattle.svr_json.specs.Parts.{elements_of, has_members, items_in, names_in}
 use Rattle.svr_schema.specs.Lawful.{are_different}
-use Rattle.svr_schema.specs.Parts.{elements_at, text_at}
+use Rattle.svr_schema.specs.Parts.{elements_at, text_or_empty}
 use Rattle.svr_schema.proofs.Steps.{and_true, and_then-some, is_some-true}
 
 -- nothing at the member has a float
@@ -34,14 +35,18 @@ decided true h = absurd (h refl)
 decided false h = refl
 
 bytes_eq-turned : (xs ys : List ℕ) → bytes_eq xs ys ≡ false → bytes_eq ys xs ≡ false
-bytes_eq-turned xs ys h = decided (bytes_eq ys xs) (λ e. false≢true (sym h ∙ (bytes_eq-Decides xs ys).1 (sym ((bytes_eq-Decides ys xs).0 e))))
+bytes_eq-turned xs ys h =
+    decided (bytes_eq ys xs) (λ e. false≢true (sym h ∙ (bytes_eq-Decides xs ys).1 (sym ((bytes_eq-Decides ys xs).0 e))))
 
 -- another name isn't that of the first member
-get_member-behind : (name first : List ℕ) (e : Data) (ms : Members) → bytes_eq first name ≡ false → get_member name (member first e ms) ≡ get_member name ms
-get_member-behind name first e ms h = passed (slice_cmp nat_cmp name first) e (get_member name ms) (is_eq-slice_cmp name first ∙ bytes_eq-turned first name h)
+get_member-behind : (name first : List ℕ) (e : Data) (ms : Members) → bytes_eq first name ≡ false
+    → get_member name (member first e ms) ≡ get_member name ms
+get_member-behind name first e ms h =
+    passed (slice_cmp nat_cmp name first) e (get_member name ms) (is_eq-slice_cmp name first ∙ bytes_eq-turned first name h)
 
 get_member-first : (name : List ℕ) (e : Data) (ms : Members) → get_member name (member name e ms) ≡ Some e
-get_member-first name e ms = ap (λ o. match_ordering o (get_member name ms) (Some e) (get_member name ms)) (tied_itself nat_list_cmp_total name)
+get_member-first name e ms =
+    ap (λ o. match_ordering o (get_member name ms) (Some e) (get_member name ms)) (tied_itself nat_list_cmp_total name)
 
 neither : (a b : Bool) → (a || b) ≡ false → (a ≡ false) × (b ≡ false)
 neither true b e = absurd (false≢true (sym e))
@@ -51,8 +56,11 @@ behind : (first : List ℕ) (e : Data) (ms : Members) (names : List (List ℕ)) 
     → AllByRecursion (NoFloatAt (object (member first e ms))) names → AllByRecursion (NoFloatAt (object ms)) names
 behind first e ms [] h a = tt
 behind first e ms (n ∷ names) h a =
-    let apart = neither (bytes_eq first n) (list_any (bytes_eq first) names) h in
-    (subst (λ (o : Option Data). option_map_or has_float o false ≡ false) (get_member-behind n first e ms apart.0) a.0, behind first e ms names apart.1 a.1)
+    let apart = neither (bytes_eq first n) (list_any (bytes_eq first) names) h in (
+      subst (λ (o : Option Data). option_map_or has_float o false ≡ false)
+          (get_member-behind n first e ms apart.0) a.0,
+      behind first e ms names apart.1 a.1,
+    )
 
 not_true : (b : Bool) → not b ≡ true → b ≡ false
 not_true true e = absurd (false≢true e)
@@ -71,7 +79,9 @@ members_no_float (member k e ms) (n ∷ names) p d a =
     let at_name = λ (x : List ℕ). option_map_or has_float (get_member n (member x e ms)) false ≡ false in
     let here : option_map_or has_float (get_member n (member n e ms)) false ≡ false = subst at_name same a.0 in
     let value : has_float e ≡ false = subst (λ (o : Option Data). option_map_or has_float o false ≡ false) (get_member-first n e ms) here in
-    let rest = behind n e ms names (not_true _ differ.0) (subst (λ (x : List ℕ). AllByRecursion (NoFloatAt (object (member x e ms))) names) same a.1) in
+    let rest =
+    behind n e ms names (not_true _ differ.0)
+    (subst (λ (x : List ℕ). AllByRecursion (NoFloatAt (object (member x e ms))) names) same a.1) in
     or_false (has_float e) (members_have_float ms) value (members_no_float ms names first.1 differ.1 rest)
 
 -- an object of these members, none of which has a float
@@ -131,7 +141,7 @@ some_text : (o : Option (List ℕ)) → (unwrap_or o [] ≡ [] → ⊥) → (s :
 some_text None h = absurd (h refl)
 some_text (Some s) h = (s, refl)
 
-pub NoFloatAt-text : (d : Data) (name : List ℕ) → (text_at name d ≡ [] → ⊥) → NoFloatAt d name
+pub NoFloatAt-text : (d : Data) (name : List ℕ) → (text_or_empty name d ≡ [] → ⊥) → NoFloatAt d name
 NoFloatAt-text d name h =
     let s = some_text (option_and_then as_str (get name d)) h in
     NoFloatAt-by d name as_str s.0 (λ v e. string_no_float v s.0 e) s.1
@@ -141,11 +151,17 @@ number_chain : {A : Type 0} (f : Num → Option A) (o : Option Data)
 number_chain f None = refl
 number_chain f (Some v) = refl
 
-pub NoFloatAt-i64 : (d : Data) (name : List ℕ) (z : ℤ) → option_and_then as_i64 (option_and_then as_number (get name d)) ≡ Some z → NoFloatAt d name
-NoFloatAt-i64 d name z e = NoFloatAt-by d name (λ v. option_and_then as_i64 (as_number v)) z (λ v h. i64_no_float v z h) (sym (number_chain as_i64 (get name d)) ∙ e)
+pub NoFloatAt-i64 : (d : Data) (name : List ℕ) (z : ℤ) → option_and_then as_i64 (option_and_then as_number (get name d)) ≡ Some z
+    → NoFloatAt d name
+NoFloatAt-i64 d name z e =
+    NoFloatAt-by d name (λ v. option_and_then as_i64 (as_number v)) z (λ v h. i64_no_float v z h)
+    (sym (number_chain as_i64 (get name d)) ∙ e)
 
-pub NoFloatAt-u64 : (d : Data) (name : List ℕ) (n : ℕ) → option_and_then as_u64 (option_and_then as_number (get name d)) ≡ Some n → NoFloatAt d name
-NoFloatAt-u64 d name n e = NoFloatAt-by d name (λ v. option_and_then as_u64 (as_number v)) n (λ v h. u64_no_float v n h) (sym (number_chain as_u64 (get name d)) ∙ e)
+pub NoFloatAt-u64 : (d : Data) (name : List ℕ) (n : ℕ) → option_and_then as_u64 (option_and_then as_number (get name d)) ≡ Some n
+    → NoFloatAt d name
+NoFloatAt-u64 d name n e =
+    NoFloatAt-by d name (λ v. option_and_then as_u64 (as_number v)) n (λ v h. u64_no_float v n h)
+    (sym (number_chain as_u64 (get name d)) ∙ e)
 
 -- ---- arrays
 
@@ -153,7 +169,8 @@ items_no_float : (ds : Items) → AllByRecursion (λ d. has_float d ≡ false) (
 items_no_float no_items a = refl
 items_no_float (item d ds) a = or_false (has_float d) (items_have_float ds) a.0 (items_no_float ds a.1)
 
-array_no_float : (d : Data) (ds : Items) → as_array d ≡ Some ds → AllByRecursion (λ e. has_float e ≡ false) (elements_of d) → has_float d ≡ false
+array_no_float : (d : Data) (ds : Items) → as_array d ≡ Some ds → AllByRecursion (λ e. has_float e ≡ false) (elements_of d)
+    → has_float d ≡ false
 array_no_float (array es) ds e a = items_no_float es a
 array_no_float null ds e a = refl
 array_no_float (boolean b) ds e a = refl
@@ -169,4 +186,5 @@ pub NoFloatAt-array : (d : Data) (name : List ℕ) → is_some (option_and_then 
 NoFloatAt-array d name h a =
     let ds = is_some-true _ h in
     let one = and_then-some (get name d) as_array ds.0 ds.1 in
-    NoFloatAt-is d name one.0 one.1 (array_no_float one.0 ds.0 one.2 (subst (AllByRecursion (λ e. has_float e ≡ false)) (elements_at-is d name one.0 one.1) a))
+    NoFloatAt-is d name one.0 one.1
+    (array_no_float one.0 ds.0 one.2 (subst (AllByRecursion (λ e. has_float e ≡ false)) (elements_at-is d name one.0 one.1) a))

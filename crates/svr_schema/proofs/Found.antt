@@ -11,9 +11,11 @@ cons_option-append (Some y) ys zs = refl
 filter_map-last : {X Y : Type 0} (f : X → Option Y) (x : X) → filter_map f (x ∷ []) ≡ option_to_list (f x)
 filter_map-last f x = elim (f x) as (λ o. cons_option o [] ≡ option_to_list o) [ None ↦ refl | Some y ↦ refl ]
 
-filter_map-append : {X Y : Type 0} (f : X → Option Y) (xs : List X) (x : X) → filter_map f (xs ++ x ∷ []) ≡ filter_map f xs ++ option_to_list (f x)
+filter_map-append : {X Y : Type 0} (f : X → Option Y) (xs : List X) (x : X)
+    → filter_map f (xs ++ x ∷ []) ≡ filter_map f xs ++ option_to_list (f x)
 filter_map-append f [] x = filter_map-last f x
-filter_map-append f (y ∷ xs) x = ap (cons_option (f y)) (filter_map-append f xs x) ∙ cons_option-append (f y) (filter_map f xs) (option_to_list (f x))
+filter_map-append f (y ∷ xs) x =
+    ap (cons_option (f y)) (filter_map-append f xs x) ∙ cons_option-append (f y) (filter_map f xs) (option_to_list (f x))
 
 pub filter_map-more : {W X Y : Type 0} (f : X → Option Y) (h : W → X) (ws : List W) (i : ℕ) (w : W) → i < length ws → w ≡ get_or ws i w
     → filter_map f (map h (take (i + 1) ws)) ≡ filter_map f (map h (take i ws)) ++ option_to_list (f (h w))

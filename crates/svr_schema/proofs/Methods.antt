@@ -15,4 +15,10 @@ bytes_eq-false xs ys h = decided (bytes_eq xs ys) (λ e. h ((bytes_eq-Decides xs
 pub method_of_kind-other : (k : List ℕ) (m : Data) → (k ≡ codes "id" → ⊥) → (k ≡ codes "score" → ⊥) → (k ≡ codes "score-threshold" → ⊥)
     → (k ≡ codes "chunk" → ⊥) → method_of_kind k m ≡ None
 method_of_kind-other k m a b c d =
-    rw (bytes_eq-false k (codes "id") a, bytes_eq-false k (codes "score") b, bytes_eq-false k (codes "score-threshold") c, bytes_eq-false k (codes "chunk") d) refl
+    rw (
+      bytes_eq-false k (codes "id") a,
+      bytes_eq-false k (codes "score") b,
+      bytes_eq-false k (codes "score-threshold") c,
+      bytes_eq-false k (codes "chunk") d,
+    )
+    refl

@@ -6,11 +6,12 @@ use Rattle.std.proofs.lemmas.List.Elements.{All-from_recursion}
 use Rattle.serde_json.specs.Data.{Data}
 use Rattle.svr_schema.specs.declared.table.Table.{Table}
 use Rattle.svr_schema.specs.Lawful.{IsTable, begins_with_id}
-use Rattle.svr_schema.specs.Lookups.{AreFew}
 use Rattle.svr_schema.specs.Parts.{elements_at, is_list_at}
-use Rattle.svr_schema.specs.Rules.{are_named, begin_with_id, has_parts, has_tables, have_columns, have_different_columns, have_different_names, name_fault, table_fault}
+use Rattle.svr_schema.specs.Rules.{are_named, begin_with_id, has_parts}
+use Rattle.svr_schema.specs.Rules.{has_tables, have_columns, have_different_columns, have_different_names}
+use Rattle.svr_schema.specs.Steps.{AreFew, name_fault, table_fault}
 use Rattle.svr_schema.specs.Tables.{column_in, columns_differ, has_columns, is_named, table_in, tables_in}
-use Rattle.svr_schema.proofs.Steps.{and_true, nat_le-true, rule-none}
+use Rattle.svr_schema.proofs.Steps.{and_true, nat_le-true, first_fault-none}
 
 pub record TablesHold (d : Data) : Type 0 where
   pub parts : has_parts d ≡ true
@@ -24,14 +25,22 @@ pub record TablesHold (d : Data) : Type 0 where
 pub TablesHold-from_none : (d : Data) → table_fault d ≡ None → TablesHold d
 unfolding table_fault name_fault
 TablesHold-from_none d e =
-    let one = rule-none 1 _ _ e in
-    let two = rule-none 2 _ _ one.1 in
-    let three = rule-none 3 _ _ two.1 in
-    let four = rule-none 4 _ _ three.1 in
-    let five = rule-none 5 _ _ four.1 in
-    let six = rule-none 6 _ _ five.1 in
-    let seven = rule-none 7 _ _ six.1 in
-    record { parts = one.0; tables = two.0; columns = three.0; named = four.0; names_differ = five.0; columns_differ = six.0; ids = seven.0 }
+    let one = first_fault-none 1 _ _ e in
+    let two = first_fault-none 2 _ _ one.1 in
+    let three = first_fault-none 3 _ _ two.1 in
+    let four = first_fault-none 4 _ _ three.1 in
+    let five = first_fault-none 5 _ _ four.1 in
+    let six = first_fault-none 6 _ _ five.1 in
+    let seven = first_fault-none 7 _ _ six.1 in
+    record {
+      parts = one.0;
+      tables = two.0;
+      columns = three.0;
+      named = four.0;
+      names_differ = five.0;
+      columns_differ = six.0;
+      ids = seven.0;
+    }
 
 -- the elements of a list that has so many
 pub is_list_at-length : (name : List ℕ) (low high : ℕ) (d : Data) → is_list_at name low high d ≡ true
@@ -55,7 +64,8 @@ table_holds e cols named differ ids =
       id_first = ids;
     }
 
-tables_hold : (es : List Data) → list_all has_columns es ≡ true → list_all is_named (map table_in es) ≡ true → list_all columns_differ (map table_in es) ≡ true
+tables_hold : (es : List Data) → list_all has_columns es ≡ true → list_all is_named (map table_in es) ≡ true
+    → list_all columns_differ (map table_in es) ≡ true
     → list_all (λ t. begins_with_id t.columns) (map table_in es) ≡ true → AllByRecursion IsTable (map table_in es)
 tables_hold [] a b c d = tt
 tables_hold (e ∷ es) a b c d =
@@ -66,12 +76,16 @@ tables_hold (e ∷ es) a b c d =
     (table_holds e a2.0 b2.0 c2.0 d2.0, tables_hold es a2.1 b2.1 c2.1 d2.1)
 
 pub AllTables : (d : Data) → TablesHold d → All IsTable (tables_in d)
-AllTables d h = All-from_recursion IsTable (tables_in d) (tables_hold (elements_at (codes "tables") d) h.columns h.named h.columns_differ h.ids)
+AllTables d h =
+    All-from_recursion IsTable (tables_in d) (tables_hold (elements_at (codes "tables") d) h.columns h.named h.columns_differ h.ids)
 
 pub tables-length : (d : Data) → TablesHold d → (1 ≤ length (tables_in d)) × (length (tables_in d) ≤ 8)
 tables-length d h =
-    let count = is_list_at-length (codes "tables") 1 8 d (and_true _ _ h.tables).0 in
-    (omega (arith, length-map (elements_at (codes "tables") d) table_in, count.0), omega (arith, length-map (elements_at (codes "tables") d) table_in, count.1))
+    let count = is_list_at-length (codes "tables") 1 8 d (and_true _ _ h.tables).0 in (
+      omega (arith, length-map (elements_at (codes "tables") d) table_in, count.0),
+      omega
+          (arith, length-map (elements_at (codes "tables") d) table_in, count.1),
+    )
 
 few_columns : (ts : List Table) → AllByRecursion IsTable ts → AllByRecursion (λ t. length t.columns ≤ 8) ts
 few_columns [] h = tt
@@ -80,5 +94,7 @@ few_columns (t ∷ ts) h = (h.0.few, few_columns ts h.1)
 pub AreFew-tables : (d : Data) → TablesHold d → AreFew (tables_in d)
 AreFew-tables d h = record {
   tables_few = (tables-length d h).1;
-  columns_few = All-from_recursion _ (tables_in d) (few_columns (tables_in d) (tables_hold (elements_at (codes "tables") d) h.columns h.named h.columns_differ h.ids));
+  columns_few =
+      All-from_recursion _ (tables_in d)
+      (few_columns (tables_in d) (tables_hold (elements_at (codes "tables") d) h.columns h.named h.columns_differ h.ids));
 }

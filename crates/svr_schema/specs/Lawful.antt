@@ -21,6 +21,7 @@ use Rattle.svr_schema.specs.declared.table.Table.{Table}
 use Rattle.svr_schema.specs.declared.schema.Schema.{Schema}
 use Rattle.svr_schema.specs.Lookups.{is_kind}
 
+-- a letter a to z, a digit or _
 abbrev pub is_name_byte : ℕ → Bool
 is_name_byte c = is_ascii_lowercase c || is_ascii_digit c || c == 95
 
@@ -39,6 +40,7 @@ unfoldable pub begins_with_id : List Column → Bool
 begins_with_id [] = false
 begins_with_id (c ∷ cs) = bytes_eq c.name (codes "id") && is_kind c.kind kind.Int
 
+-- a table with a name and 1 to 8 columns of different names, the first of which is the id
 pub record IsTable (t : Table) : Type 0 where
   pub named : is_name t.name ≡ true
   pub some : 1 ≤ length t.columns
@@ -56,6 +58,7 @@ abbrev pub kind_of : Cell → ColumnKind
 kind_of (cell.Int n) = kind.Int
 kind_of (cell.Text t) = kind.Text
 
+-- the filter, if there is one, asks for a cell of its column's kind
 abbrev pub IsFilter : List Column → Option Filter → Type 0
 IsFilter columns None = ⊤
 IsFilter columns (Some f) = IsOfKind (kind_of f.equals) columns f.column
@@ -65,17 +68,20 @@ pub record IsWeight (n : ℤ) : Type 0 where
   pub low : neg_ℤ (pos 1000000000) ≤ℤ n
   pub high : n ≤ℤ pos 1000000000
 
+-- whether it takes the numbers of a column
 abbrev pub has_column : Aggregate → Bool
 has_column how.Count = false
 has_column _ = true
 
+-- whether a number stands in where no row counts
 abbrev pub has_empty : Aggregate → Bool
 has_empty how.Sum = false
 has_empty how.Count = false
 has_empty _ = true
 
--- what the rows of another table make a component of
-pub record IsOver (tables : List Table) (text_table : ℕ) (how : Aggregate) (table by column : ℕ) (weight empty : ℤ) (filter : Option Filter) : Type 0 where
+-- a component over the rows of another table
+pub record IsOver (tables : List Table) (text_table : ℕ) (how : Aggregate) (table by column : ℕ) (weight empty : ℤ) (filter : Option Filter)
+    : Type 0 where
   pub there : Table
   pub at : slice_get tables table ≡ Some there
   pub other : table ≢ text_table
@@ -85,16 +91,20 @@ pub record IsOver (tables : List Table) (text_table : ℕ) (how : Aggregate) (ta
   pub stood_in : MatchBool (has_empty how) (IsWeight empty) (empty ≡ pos 0)
   pub filtered : IsFilter there.columns filter
 
+-- a component of the documents' own rows
 pub record IsOwn (tables : List Table) (text_table column : ℕ) (weight : ℤ) : Type 0 where
   pub there : Table
   pub at : slice_get tables text_table ≡ Some there
   pub column_int : IsOfKind kind.Int there.columns column
   pub weighted : IsWeight weight
 
+-- a component whose tables, columns and numbers are as the rules want them
 abbrev pub IsComponent : List Table → ℕ → Component → Type 0
 IsComponent tables text_table (Own column weight) = IsOwn tables text_table column weight
-IsComponent tables text_table (Over how table by column weight empty filter) = IsOver tables text_table how table by column weight empty filter
+IsComponent tables text_table (Over how table by column weight empty filter) =
+    IsOver tables text_table how table by column weight empty filter
 
+-- a method whose numbers are in their ranges
 abbrev pub IsMethod : MethodSpec → Type 0
 IsMethod method.Id = ⊤
 IsMethod method.Score = ⊤
@@ -107,6 +117,7 @@ pub record HasText (tables : List Table) (text_table text_column : ℕ) : Type 0
   pub at : slice_get tables text_table ≡ Some there
   pub column_text : IsOfKind kind.Text there.columns text_column
 
+-- what a caller may rely on
 pub record IsSchema (s : Schema) : Type 0 where
   pub some_tables : 1 ≤ length s.tables
   pub few_tables : length s.tables ≤ 8

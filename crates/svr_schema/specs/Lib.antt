@@ -1,7 +1,7 @@
 pub mod Components
-pub mod Drafts
 pub mod Lawful
 pub mod Lookups
 pub mod Parts
 pub mod Rules
+pub mod Steps
 pub mod Tables

@@ -1,12 +1,12 @@
 -- Where tables and columns stand by their names.
-use Rattle.std.specs.Prelude.{◌≤◌, ℕ, ◌&&◌, length, Bool, true, false, List, position, Option}
-use Rattle.std.specs.List.{All}
+use Rattle.std.specs.Prelude.{ℕ, ◌&&◌, Bool, true, false, List, position, Option}
 use Rattle.std.specs.Str.{bytes_eq}
 use Rattle.svr_schema.specs.declared.table.ColumnKind.{ColumnKind}
 use Rattle.svr_schema.specs.declared.table.ColumnKind.TheVariants as kind
 use Rattle.svr_schema.specs.declared.table.Column.{Column}
 use Rattle.svr_schema.specs.declared.table.Table.{Table}
 
+-- the kinds are the same
 abbrev pub is_kind : ColumnKind → ColumnKind → Bool
 is_kind kind.Int kind.Int = true
 is_kind kind.Text kind.Text = true
@@ -23,8 +23,3 @@ column_at columns name = position (λ c. bytes_eq c.name name) columns
 -- the same, of a column of this kind
 abbrev pub column_of_kind : ColumnKind → List Column → List ℕ → Option ℕ
 column_of_kind kind columns name = position (λ c. bytes_eq c.name name && is_kind c.kind kind) columns
-
--- at most eight tables of at most eight columns
-pub record AreFew (tables : List Table) : Type 0 where
-  pub tables_few : length tables ≤ 8
-  pub columns_few : All (λ t. length t.columns ≤ 8) tables

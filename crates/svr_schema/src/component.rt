@@ -2,14 +2,14 @@ use svr_edge::Text;
 use svr_num::Aggregate;
 
 /// The content of a row in one column.
-#[derive(Debug, Drop, PartialEq)]
+#[derive(Debug, Drop)]
 pub enum Cell {
     Int(i64),
     Text(Text),
 }
 
 /// Asks that one column of a row equals one value.
-#[derive(Debug, Drop, PartialEq)]
+#[derive(Drop)]
 pub struct Filter {
     /// The column's place in its table.
     pub column: u8,
@@ -17,7 +17,7 @@ pub struct Filter {
 }
 
 /// One part of a score: a number of the document, times a weight.
-#[derive(Debug, Drop)]
+#[derive(Drop)]
 pub enum Component {
     /// An int column of the document's own row.
     Own {

@@ -1,6 +1,7 @@
 ghost use Rattle.std.specs.Prelude.{◌≡◌, ◌≤◌, ◌<◌, length, IfSome};
 ghost use Rattle.std.specs.Option.{ForSome};
-ghost use Rattle.svr_schema.specs.Lookups.{column_at, column_of_kind, table_at, AreFew};
+ghost use Rattle.svr_schema.specs.Lookups.{column_at, column_of_kind, table_at};
+ghost use Rattle.svr_schema.specs.Steps.{AreFew};
 ghost use Rattle.svr_schema.specs.Tables.{columns_of};
 
 use crate::table::{Column, ColumnKind, Table};
@@ -10,10 +11,7 @@ fn place(at: Option<usize>) -> Option<u8>
     requires { ForSome at (λ i. i < 256) }
     ensures { result ≡ at }
 {
-    match at {
-        Some(at) => Some(at as u8),
-        None => None,
-    }
+    Some(at? as u8)
 }
 
 fn find_table(tables: &[Table], name: &str) -> Option<usize>

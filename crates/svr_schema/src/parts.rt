@@ -1,13 +1,13 @@
 ghost use Rattle.std.specs.Prelude.{◌≡◌, map, IfSome, pos, ◌≤ℤ◌, ◌≤◌};
 ghost use Rattle.serde_json.specs.View.{view};
-ghost use Rattle.svr_schema.specs.Parts.{count_within, elements_at, is_list_at, text_at, whole_within};
+ghost use Rattle.svr_schema.specs.Parts.{count_within, elements_at, is_list_at, text_or_empty, whole_within};
 
 use serde_json::Value;
 use svr_json::elements;
 
 /// The string at a member, empty where there is none.
 pub fn text_or_empty<'a>(value: &'a Value, name: &str) -> &'a str
-    ensures { result.now ≡ text_at name.now (view value.now) }
+    ensures { result.now ≡ text_or_empty name.now (view value.now) }
 {
     svr_json::text_at(value, name).unwrap_or("")
 }

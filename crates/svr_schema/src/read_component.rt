@@ -3,9 +3,8 @@ ghost use Rattle.std.specs.List.{filter_map, list_all};
 ghost use Rattle.serde_json.specs.View.{view};
 ghost use Rattle.svr_schema.specs.Components.{aggregated, cell_of, component_in, components_in, filter_in, filter_of, filtered_members_of, int_column, is_component, is_filtered, is_placed, is_weighted, kind_in, members_of, other_table, over_in, own_in, places_in, stand_in, weight_at};
 ghost use Rattle.svr_json.specs.Parts.{has_members};
-ghost use Rattle.svr_schema.specs.Drafts.{cell_view, filter_view, over_view};
-ghost use Rattle.svr_schema.specs.Lookups.{AreFew};
-ghost use Rattle.svr_schema.specs.Rules.{are_filtered, are_placed, are_weighted, component_fault, has_components};
+ghost use Rattle.svr_schema.specs.Rules.{are_filtered, are_placed, are_weighted, has_components};
+ghost use Rattle.svr_schema.specs.Steps.{AreFew, cell_view, component_fault, filter_view, over_view};
 
 use crate::component::{Cell, Component, Filter};
 use crate::error::SchemaError;
@@ -213,12 +212,12 @@ fn read_filter<'a>(columns: &[Column], value: &'a Value) -> Option<FilterDraft<'
     requires { length columns.now ≤ 8 }
     ensures { option_map filter_view result ≡ filter_of columns.now (view value.now) }
 {
-    let at = column_at(columns, text_or_empty(value, "column"))?;
-    let kind = columns.get(at as usize)?.kind;
-    let equals = read_cell(kind, value.get("equals")?)?;
     if !has_members(value, &["column", "equals"]) {
         return None;
     }
+    let at = column_at(columns, text_or_empty(value, "column"))?;
+    let kind = columns.get(at as usize)?.kind;
+    let equals = read_cell(kind, value.get("equals")?)?;
     Some(FilterDraft { column: at, equals })
 }
 
@@ -402,7 +401,7 @@ fn are_filtered(tables: &[Table], text_table: u8, value: &Value) -> bool
 }
 
 /// The first of the rules 9 to 12 that fails.
-#[tactic(auto, unfolding(crate::specs::Rules::component_fault))]
+#[tactic(auto, unfolding(crate::specs::Steps::component_fault))]
 fn component_fault(tables: &[Table], text_table: u8, value: &Value) -> Option<u8>
     requires { AreFew tables.now }
     ensures { result ≡ component_fault tables.now text_table (view value.now) }

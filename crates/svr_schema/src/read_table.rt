@@ -1,8 +1,8 @@
-ghost use Rattle.std.specs.Prelude.{◌≡◌, ◌≤◌, ◌<◌, ℕ, map, length, None, Some, IfOk, IfErr};
+ghost use Rattle.std.specs.Prelude.{◌≡◌, ℕ, map, None, Some, IfOk, IfErr};
 ghost use Rattle.std.specs.List.{list_all};
 ghost use Rattle.serde_json.specs.View.{view};
-ghost use Rattle.svr_schema.specs.Lookups.{AreFew};
-ghost use Rattle.svr_schema.specs.Rules.{are_named, begin_with_id, has_parts, has_tables, have_columns, have_different_columns, have_different_names, name_fault, table_fault};
+ghost use Rattle.svr_schema.specs.Rules.{are_named, begin_with_id, has_parts, has_tables, have_columns, have_different_columns, have_different_names};
+ghost use Rattle.svr_schema.specs.Steps.{name_fault, table_fault};
 ghost use Rattle.svr_schema.specs.Tables.{column_in, has_columns, is_column, columns_differ, is_named, is_table, table_in, tables_in};
 ghost use Rattle.svr_schema.specs.Lawful.{begins_with_id, is_name};
 
@@ -34,12 +34,16 @@ fn has_columns(value: &Value) -> bool
     is_list_at(value, "columns", 1, 8) && are_columns(elements_at(value, "columns"))
 }
 
+fn is_table(value: &Value) -> bool
+    ensures { result ≡ is_table (view value.now) }
+{
+    has_members(value, &["columns", "name"])
+}
+
 fn are_tables(values: &[Value]) -> bool
     ensures { result ≡ list_all (λ value. is_table (view value)) values.now }
 {
-    values
-        .iter()
-        .all(|value| has_members(value, &["columns", "name"]))
+    values.iter().all(is_table)
 }
 
 fn has_tables(value: &Value) -> bool
@@ -109,7 +113,7 @@ fn begin_with_id(tables: &[Table]) -> bool
 }
 
 /// The first of the rules 4 to 7 that fails.
-#[tactic(auto, unfolding(crate::specs::Rules::name_fault))]
+#[tactic(auto, unfolding(crate::specs::Steps::name_fault))]
 fn name_fault(tables: &[Table]) -> Option<u8>
     ensures { result ≡ name_fault tables.now }
 {
@@ -169,7 +173,7 @@ fn table_list(alloc: Global, values: &[Value]) -> Result<Items<Table>, Memory>
 }
 
 /// The tables of a value, or the first of the rules 1 to 7 that fails.
-#[tactic(auto, unfolding(crate::specs::Rules::table_fault))]
+#[tactic(auto, unfolding(crate::specs::Steps::table_fault))]
 pub fn read_tables(alloc: Global, value: &Value) -> Result<Items<Table>, SchemaError>
     ensures ok { IfOk result (λ tables. (table_fault (view value.now) ≡ None) × (tables ≡ tables_in (view value.now))) }
     ensures rule { IfErr result (λ why. (n : ℕ) → why ≡ SchemaError.Rule n → table_fault (view value.now) ≡ Some n) }

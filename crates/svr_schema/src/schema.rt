@@ -1,12 +1,12 @@
-ghost use Rattle.std.specs.Prelude.{◌≡◌, ◌≤◌, ℕ, length, None, Some, codes, map, option_map, false, IfOk, IfErr};
+ghost use Rattle.std.specs.Prelude.{◌≡◌, ℕ, Some, Ok, Err, codes, map, false, IfOk, IfErr};
 ghost use Rattle.serde_json.specs.View.{view};
 ghost use Rattle.serde_json.specs.Written.{has_float};
 ghost use Rattle.svr_schema.specs.Components.{component_in};
 ghost use Rattle.svr_schema.specs.Lawful.{IsSchema};
-ghost use Rattle.svr_schema.specs.Lookups.{AreFew, table_at};
+ghost use Rattle.svr_schema.specs.Lookups.{table_at};
 ghost use Rattle.svr_schema.specs.Parts.{elements_at};
-ghost use Rattle.svr_schema.specs.Rules.{divisor_in, failing_rule, is_short, schema_in, text_in};
-ghost use Rattle.svr_schema.specs.Tables.{tables_in};
+ghost use Rattle.svr_schema.specs.Rules.{divisor_in, has_short_text, schema_in, text_place};
+ghost use Rattle.svr_schema.specs.Steps.{AreFew};
 
 use crate::component::Component;
 use crate::error::SchemaError;
@@ -26,7 +26,7 @@ use svr_json::has_members;
 const SCHEMA_BYTES: usize = 1_048_576;
 
 /// Tables, which column of which of them is searched, and how a document's score is computed and listed.
-#[derive(Debug, Drop)]
+#[derive(Drop)]
 pub struct Schema {
     pub tables: Items<Table>,
     /// The place of the table that holds the documents.
@@ -56,22 +56,21 @@ struct TextPlace {
     column: u8,
 }
 
-#[tactic(auto, unfolding(crate::specs::Rules::text_in))]
+#[tactic(auto, unfolding(crate::specs::Rules::text_place))]
 fn read_text(tables: &[Table], value: &Value) -> Option<TextPlace>
-    requires few { AreFew tables.now }
-    requires same { tables.now ≡ tables_in (view value.now) }
-    ensures { option_map (λ place. (place.table, place.column)) result ≡ text_in (view value.now) }
+    requires { AreFew tables.now }
+    ensures { result ≡ text_place tables.now (view value.now) }
 {
     let text = value.get("text")?;
+    if !has_members(text, &["column", "table"]) {
+        return None;
+    }
     let table = table_at(tables, text_or_empty(text, "table"))?;
     let column = column_of_kind(
         columns_of(tables, table),
         ColumnKind::Text,
         text_or_empty(text, "column"),
     )?;
-    if !has_members(text, &["column", "table"]) {
-        return None;
-    }
     Some(TextPlace { table, column })
 }
 
@@ -82,26 +81,25 @@ fn read_divisor(value: &Value) -> Option<i64>
     whole_within(value, "divisor", 1, 1_000_000_000)
 }
 
-/// Whether the value isn't too long when it is written.
-fn is_short(alloc: Global, value: &Value) -> Result<bool, Memory>
+/// Whether the text that is written for the value isn't too long.
+fn has_short_text(alloc: Global, value: &Value) -> Result<bool, Memory>
     requires { has_float (view value.now) ≡ false }
-    ensures { IfOk result (λ short. short ≡ is_short (view value.now)) }
+    ensures { IfOk result (λ short. short ≡ has_short_text (view value.now)) }
 {
     Ok(value.to_vec(alloc)?.len() <= SCHEMA_BYTES)
 }
 
 /// Reads a value as a schema.
 pub fn read_schema(alloc: Global, value: &Value) -> Result<Schema, SchemaError>
-    ensures rules { IfOk result (λ schema. failing_rule (view value.now) ≡ None) }
-    ensures schema { IfOk result (λ schema. schema_in (view value.now) ≡ Some schema) }
+    ensures schema { IfOk result (λ schema. schema_in (view value.now) ≡ Ok schema) }
     ensures lawful { IfOk result IsSchema }
 
-    // No element of the components is passed over.
+    // Each element of the components makes one, and none is passed over.
     ensures complete { IfOk result (λ schema. map Some schema.components
         ≡ map (component_in schema.tables schema.text_table) (elements_at (codes "components") (view value.now))) }
 
     // The first rule that fails is told.
-    ensures rule { IfErr result (λ why. (n : ℕ) → why ≡ SchemaError.Rule n → failing_rule (view value.now) ≡ Some n) }
+    ensures rule { IfErr result (λ why. (n : ℕ) → why ≡ SchemaError.Rule n → schema_in (view value.now) ≡ Err n) }
 {
     let tables = read_tables(alloc, value)?;
     let Some(text) = read_text(tables.as_slice(), value) else {
@@ -114,7 +112,7 @@ pub fn read_schema(alloc: Global, value: &Value) -> Result<Schema, SchemaError>
     let Some(method) = read_method(value) else {
         return Err(SchemaError::Rule(14));
     };
-    if !is_short(alloc, value)? {
+    if !has_short_text(alloc, value)? {
         return Err(SchemaError::Rule(14));
     }
     Ok(Schema {

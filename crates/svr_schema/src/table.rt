@@ -11,14 +11,14 @@ pub enum ColumnKind {
 }
 
 /// A column of a table.
-#[derive(Debug, Drop)]
+#[derive(Drop)]
 pub struct Column {
     pub name: Text,
     pub kind: ColumnKind,
 }
 
 /// A table. Its first column holds the ids of its rows.
-#[derive(Debug, Drop)]
+#[derive(Drop)]
 pub struct Table {
     pub name: Text,
     pub columns: Items<Column>,

@@ -10,4 +10,5 @@ returns-in-Some c =
     let es = c.in-Some.members.now.entries in
     let names = map (λ n. n.now) c.args.names.now in
     c.are_names.ensures
-    ∙ sym (has_members-object (view c.args.value.now) (members_view es) names c.in-Some.ensures ∙ ap (λ xs. pointwise bytes_eq xs names) (names_in-members_view es))
+    ∙ sym (has_members-object (view c.args.value.now) (members_view es) names c.in-Some.ensures
+    ∙ ap (λ xs. pointwise bytes_eq xs names) (names_in-members_view es))

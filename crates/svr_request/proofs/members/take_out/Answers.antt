@@ -11,4 +11,5 @@ returns-clause-taken c =
 pub returns-clause-others : goal.returns-clause-others
 returns-clause-others c = λ other apart.
     let kept = btree_map_updates_text c.args.name.now c.args.members.now c.remove.new.self _ c.remove.ensures.updates other in
-    sym (view-lookup other c.remove.new.self.entries) ∙ ap (option_map view) (kept ∙ rw apart) ∙ view-lookup other c.args.members.now.entries
+    sym (view-lookup other c.remove.new.self.entries) ∙ ap (option_map view) (kept ∙ rw apart)
+    ∙ view-lookup other c.args.members.now.entries

@@ -4,4 +4,5 @@ use Rattle.svr_schema.proofs.Seen.{list_all-seen}
 use Rattle.svr_schema.proofs.read_component.are_placed.Goals as goal
 
 pub returns : goal.returns
-returns c = c.all_placed.ensures ∙ list_all-seen (is_placed c.args.tables.now c.args.text_table) c.elements_at.result.now _ c.elements_at.ensures
+returns c =
+    c.all_placed.ensures ∙ list_all-seen (is_placed c.args.tables.now c.args.text_table) c.elements_at.result.now _ c.elements_at.ensures

@@ -5,4 +5,5 @@ use Rattle.svr_schema.proofs.read_table.has_tables.Goals as goal
 
 pub returns-then-is_list_at : goal.returns-then-is_list_at
 returns-then-is_list_at c =
-    and-seen _ c.are_tables.result is_table c.elements_at.result.now _ (sym c.is_list_at.ensures ∙ c.if-is_list_at.true) c.elements_at.ensures c.are_tables.ensures
+    and-seen _ c.are_tables.result is_table c.elements_at.result.now _
+    (sym c.is_list_at.ensures ∙ c.if-is_list_at.true) c.elements_at.ensures c.are_tables.ensures
