@@ -47,12 +47,12 @@ rows_unless None rows = Ok rows
 rows_unless (Some number) rows = Err number
 
 -- the rows of all records, or the number of the first that is no row
-unfoldable pub rows_in : List ColumnKind → List (List (List ℕ)) → Result (List Row) ℕ
-rows_in kinds rs = rows_unless (bad_record kinds rs) (filter_map (record_row kinds) rs)
+unfoldable pub rows_in_records : List ColumnKind → List (List (List ℕ)) → Result (List Row) ℕ
+rows_in_records kinds rs = rows_unless (bad_record kinds rs) (filter_map (record_row kinds) rs)
 
 -- the records of a block, without the first where that is a header
 abbrev pub records_in : Bool → List ℕ → List (List (List ℕ))
 records_in header bytes = drop (if header then 1 else 0) (records default_config (strip_bom bytes))
 
 abbrev pub rows_in_block : List ColumnKind → Bool → List ℕ → Result (List Row) ℕ
-rows_in_block kinds header bytes = rows_in kinds (records_in header bytes)
+rows_in_block kinds header bytes = rows_in_records kinds (records_in header bytes)

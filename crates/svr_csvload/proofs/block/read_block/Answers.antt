@@ -3,16 +3,17 @@ use Rattle.csv.specs.Reading.{default_config, records, strip_bom}
 use Rattle.svr_rows.specs.Rows.{kinds_of}
 use Rattle.svr_csvload.specs.Ahead.{ahead}
 use Rattle.svr_csvload.proofs.Between.{few_records_of}
-use Rattle.svr_csvload.proofs.Turns.{rows_in-end}
+use Rattle.svr_csvload.proofs.Turns.{rows_in_records-end}
 use Rattle.svr_csvload.proofs.block.read_block.Goals as goal
-use Rattle.svr_csvload.proofs.block.read_block.Goals.{else-header-via-then-header+in_ok-read_next+else-not-branch, else-header-via-else-header}
+use Rattle.svr_csvload.proofs.block.read_block.Goals.{else-header-via-then-header+in_ok-read_next+else-not-branch}
+use Rattle.svr_csvload.proofs.block.read_block.Goals.{else-header-via-else-header}
 
 pub returns-then-not-branch-clause-rows : goal.returns-then-not-branch-clause-rows
 returns-then-not-branch-clause-rows c =
     let no : c.in_ok-read_next.field-0 ≡ false = search rules in
     let got = rw no at c.in_ok-read_next.ensures in
     let none : records default_config (strip_bom c.args.bytes.now) ≡ [] = sym c.block_reader-reader.ensures.records ∙ got in
-    rw (c.if-header.true, none, c.new-then-not-branch.ensures.items) (rows_in-end (kinds_of c.args.table.now))
+    rw (c.if-header.true, none, c.new-then-not-branch.ensures.items) (rows_in_records-end (kinds_of c.args.table.now))
 
 pub read_rows-requires-clause-few : goal.read_rows-requires-clause-few
 read_rows-requires-clause-few c =
