@@ -119,23 +119,13 @@ impl Catalog {
         &self.schema.tables.as_slice()[table as usize]
     }
 
-    /// The row that values make in a table.
-    fn row(&self, alloc: Global, table: u8, given: Items<Given>) -> Result<Row, Refusal>
-        requires there { table < length self.now.schema.tables }
-        ensures row { IfOk result (λ row. row ≡ row_of given) }
-        ensures fits { OnOk result (bad_column (kinds_in self.now.tables table) (map cell_in given) ≡ None) }
-        ensures refused { IfErr result (IsBadRow (bad_column (kinds_in self.now.tables table) (map cell_in given))) }
-    {
-        row_in(alloc, self.declared(table), given)
-    }
-
     /// The insert of a row that values make.
     fn insertion(&self, alloc: Global, name: &str, given: Items<Given>) -> Result<Change, Refusal>
         ensures change { IfOk result (λ change. insert_outcome self.now name.now given ≡ change_outcome self.now change) }
         ensures refused { IfErr result (MayRefuse (insert_outcome self.now name.now given)) }
     {
         let table = self.table(name)?;
-        let row = self.row(alloc, table, given)?;
+        let row = row_in(alloc, self.declared(table), given)?;
         Ok(Change::Insert { table, row })
     }
 
@@ -145,7 +135,7 @@ impl Catalog {
         ensures refused { IfErr result (MayRefuse (update_outcome self.now name.now given)) }
     {
         let table = self.table(name)?;
-        let row = self.row(alloc, table, given)?;
+        let row = row_in(alloc, self.declared(table), given)?;
         Ok(Change::Update { table, row })
     }
 

@@ -1,5 +1,5 @@
 //! The rows of one table.
-ghost use Rattle.std.specs.Prelude.{◌≡◌, ◌≤◌, ◌<◌, ℕ, [], length, map, false, IfOk, IfErr, OnOk, OnErr, Some, None, option_map};
+ghost use Rattle.std.specs.Prelude.{◌≡◌, ◌≤◌, ◌<◌, ℕ, length, map, false, IfOk, IfErr, OnOk, OnErr, Some, None, option_map};
 ghost use Rattle.svr_rows.specs.Rows.{HasId, TableRows, has_row, id_of, kinds_of, no_rows, row_at, row_bytes, with_row, without_row};
 ghost use Rattle.svr_rows.specs.Changes.{new_refusal, row_refusal, with_rows_of};
 ghost use Rattle.svr_schema.specs.Lawful.{IsTable};

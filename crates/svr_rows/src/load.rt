@@ -1,6 +1,6 @@
 //! The inserts of many rows, tested before any is made.
 ghost use Rattle.std.specs.Prelude.{◌≡◌, ◌≤◌, ◌+◌, ℕ, length, None, Some, IfErr, OnOk};
-ghost use Rattle.svr_rows.specs.Rows.{HasId, row_bytes, id_of};
+ghost use Rattle.svr_rows.specs.Rows.{HasId, row_bytes};
 ghost use Rattle.svr_rows.specs.Changes.{load_refusal};
 ghost use Rattle.svr_rows.specs.Load.{Adds, refusal_of_new};
 

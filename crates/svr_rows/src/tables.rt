@@ -1,4 +1,4 @@
-ghost use Rattle.std.specs.Prelude.{◌≡◌, ◌<◌, ◌≤◌, ◌+◌, ℕ, ◌^◌, [], false, true, length, map, slice_get, IfOk, IfErr, IfSome, OnOk, OnErr, Some, None, option_map};
+ghost use Rattle.std.specs.Prelude.{◌≡◌, ◌<◌, ◌≤◌, ◌+◌, ℕ, [], length, map, slice_get, IfOk, IfErr, IfSome, OnOk, OnErr, Some, None, option_map};
 ghost use Rattle.svr_schema.specs.Lawful.{IsSchema};
 ghost use Rattle.svr_rows.specs.Rows.{HasId, IsRowOf, id_of, kinds_in, rows_in, row_at, text_bytes, no_rows, with_row, without_row};
 ghost use Rattle.svr_rows.specs.Changes.{changed, refusal_of, row_before, with_rows};

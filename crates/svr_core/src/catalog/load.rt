@@ -32,26 +32,8 @@ impl Catalog {
         ensures { Serves (load_outcome self.old name.now header block.now) (Some self.old) (Some self.new) result }
     {
         let table = self.table(name)?;
-        let rows = self.rows(alloc, table, header, block)?;
+        let rows = block_rows(alloc, self.declared(table), header, block)?;
         self.insert_rows(alloc, table, rows)
-    }
-
-    /// The rows of a block, under the columns of a table.
-    fn rows(
-        &self,
-        alloc: Global,
-        table: u8,
-        header: bool,
-        block: &[u8],
-    ) -> Result<Vec<Row>, Refusal>
-        requires there { table < length self.now.schema.tables }
-        requires few { length block.now ≤ 8388608 }
-        ensures rows { IfOk result (λ rows. rows_in_block (kinds_in self.now.tables table) header block.now ≡ Ok rows.items) }
-        ensures fit { IfOk result (λ rows. All (IsRowOf (kinds_in self.now.tables table)) rows.items) }
-        ensures few { IfOk result (λ rows. vec_len rows ≤ 8388608) }
-        ensures refused { IfErr result (IsBadRecord (rows_in_block (kinds_in self.now.tables table) header block.now)) }
-    {
-        block_rows(alloc, self.declared(table), header, block)
     }
 
     /// Inserts all rows into a table, or none.
