@@ -1,12 +1,11 @@
 //! The rows of a block.
 ghost use Rattle.std.specs.Prelude.{◌≡◌, ◌≤◌, ◌∷◌, [], ℕ, IfOk, IfErr, MatchBool, Ok, Err, length, map};
-ghost use Rattle.std.specs.List.{All};
 ghost use Rattle.csv.specs.Reading.{default_config, records, strip_bom};
 ghost use Rattle.csv.specs.Records.{fields_of};
 ghost use Rattle.svr_schema.specs.Lawful.{IsTable};
-ghost use Rattle.svr_rows.specs.Rows.{IsRowOf, kinds_of};
+ghost use Rattle.svr_rows.specs.Rows.{kinds_of};
 ghost use Rattle.svr_csvload.specs.Ahead.{IsBetween, ahead};
-ghost use Rattle.svr_csvload.specs.Blocks.{rows_in_records, rows_in_block};
+ghost use Rattle.svr_csvload.specs.Blocks.{AreRows, rows_in_block, rows_in_records};
 
 use crate::record::read_row;
 use crate::refusal::CsvRefusal;
@@ -28,9 +27,8 @@ pub fn read_block(
 ) -> Result<Vec<Row>, CsvRefusal>
     requires lawful { IsTable table.now }
     requires few { length bytes.now ≤ 8388608 }
-    ensures rows { IfOk result (λ rows. rows_in_block (kinds_of table.now) header bytes.now ≡ Ok rows.items) }
-    ensures fit { IfOk result (λ rows. All (IsRowOf (kinds_of table.now)) rows.items) }
-    ensures few { IfOk result (λ rows. length rows.items ≤ 8388608) }
+    ensures rows { IfOk result (λ rows.
+        AreRows (kinds_of table.now) (rows_in_block (kinds_of table.now) header bytes.now) rows.items) }
     ensures number { IfErr result (λ why. (n : ℕ) → why ≡ CsvRefusal.Number n
         → rows_in_block (kinds_of table.now) header bytes.now ≡ Err n) }
 {
@@ -49,9 +47,8 @@ fn read_rows(
 ) -> Result<Vec<Row>, CsvRefusal>
     requires between { IsBetween reader.old }
     requires few { length (ahead reader.old) ≤ 8388608 }
-    ensures rows { IfOk result (λ rows. rows_in_records (map (λ c. c.kind) columns.now) (ahead reader.old) ≡ Ok rows.items) }
-    ensures fit { IfOk result (λ rows. All (IsRowOf (map (λ c. c.kind) columns.now)) rows.items) }
-    ensures few { IfOk result (λ rows. length rows.items ≤ 8388608) }
+    ensures rows { IfOk result (λ rows. AreRows (map (λ c. c.kind) columns.now)
+        (rows_in_records (map (λ c. c.kind) columns.now) (ahead reader.old)) rows.items) }
     ensures number { IfErr result (λ why. (n : ℕ) → why ≡ CsvRefusal.Number n
         → rows_in_records (map (λ c. c.kind) columns.now) (ahead reader.old) ≡ Err n) }
 {

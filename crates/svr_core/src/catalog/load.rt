@@ -1,7 +1,7 @@
 //! All rows of a block, or none.
 ghost use Rattle.std.specs.List.{All};
 ghost use Rattle.std.specs.Prelude.{◌≡◌, ◌<◌, ◌≤◌, map, length, vec_len, None, Some, Ok, IfOk, IfErr, OnOk, OnErr};
-ghost use Rattle.svr_csvload.specs.Blocks.{rows_in_block};
+ghost use Rattle.svr_csvload.specs.Blocks.{AreRows, rows_in_block};
 ghost use Rattle.svr_rows.specs.Changes.{inserted, load_refusal};
 ghost use Rattle.svr_rows.specs.Rows.{HasId, IsRowOf, id_of, kinds_in, kinds_of};
 ghost use Rattle.svr_schema.specs.Lawful.{IsTable};
@@ -107,9 +107,8 @@ impl Catalog {
 fn block_rows(alloc: Global, table: &Table, header: bool, block: &[u8]) -> Result<Vec<Row>, Refusal>
     requires lawful { IsTable table.now }
     requires few { length block.now ≤ 8388608 }
-    ensures rows { IfOk result (λ rows. rows_in_block (kinds_of table.now) header block.now ≡ Ok rows.items) }
-    ensures fit { IfOk result (λ rows. All (IsRowOf (kinds_of table.now)) rows.items) }
-    ensures few { IfOk result (λ rows. vec_len rows ≤ 8388608) }
+    ensures rows { IfOk result (λ rows.
+        AreRows (kinds_of table.now) (rows_in_block (kinds_of table.now) header block.now) rows.items) }
     ensures refused { IfErr result (IsBadRecord (rows_in_block (kinds_of table.now) header block.now)) }
 {
     let rows = read_block(alloc, table, block, header).map_err(refused_block)?;

@@ -33,10 +33,12 @@ returns-in-None-clause-number c = λ n e.
 pub returns-clause-rows : goal.returns-clause-rows
 returns-clause-rows c =
     let kinds = map kind_in c.args.columns.now in
+    let rows = c.loop-rows.rows.items in
     let got = rw c.if-branch.false at c.in_ok-read_next.ensures in
     let none : rows_in_records kinds (ahead c.loop-rows.reader) ≡ Ok [] = rw got (rows_in_records-end kinds) in
-    c.loop-rows.invariant.made ∙ ap (after c.loop-rows.rows.items) none ∙ ap Ok (append-nil c.loop-rows.rows.items)
-
-pub returns-clause-fit : goal.returns-clause-fit
-returns-clause-fit c =
-    rows_in_records-fit (map kind_in c.args.columns.now) (ahead c.args.reader.now) c.loop-rows.rows.items (returns-clause-rows c)
+    let all = c.loop-rows.invariant.made ∙ ap (after rows) none ∙ ap Ok (append-nil rows) in
+    record {
+      all = all;
+      fit = rows_in_records-fit kinds (ahead c.args.reader.now) rows all;
+      few = omega (arith, c.loop-rows.invariant.few);
+    }
