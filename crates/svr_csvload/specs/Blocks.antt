@@ -1,5 +1,6 @@
 -- The rows of a block of CSV.
-use Rattle.std.specs.Prelude.{◌≡◌, ◌≤◌, ℕ, Bool, List, [], ◌∷◌, drop, length, map, filter_map, if◌then◌else◌, Option, Some, None, option_map, Result, Ok, Err}
+use Rattle.std.specs.Prelude.{◌≡◌, ◌≤◌, ℕ, Bool, List, [], ◌∷◌, drop, length}
+use Rattle.std.specs.Prelude.{map, filter_map, if◌then◌else◌, Option, Some, None, option_map, Result, Ok, Err}
 use Rattle.std.specs.List.{All, position_from}
 use Rattle.std.specs.Option.{is_none, option_and_then}
 use Rattle.std.specs.Str.{is_utf8}
