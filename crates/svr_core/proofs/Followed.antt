@@ -1,6 +1,6 @@
 -- The documents after a change.
 use Rattle.std.proofs.Common.{◌≡◌, ◌≢◌, ◌<◌, ◌==◌, ℕ, zero, suc, Bool, true, false, cond, List, [], ◌∷◌, map, length}
-use Rattle.std.proofs.Common.{Option, Some, None, is_some, option_map, Result, Ok, Err, OnOk, OnErr, refl, sym, ap, subst, ◌∙◌, arith}
+use Rattle.std.proofs.Common.{Option, Some, None, is_some, option_map, Result, Ok, Err, refl, sym, ap, subst, ◌∙◌, arith}
 use Rattle.std.specs.BTreeMap.{insert_entry, is_at}
 use Rattle.std.specs.List.{All}
 use Rattle.std.specs.Map.{lookup, remove_entry}
@@ -15,13 +15,14 @@ use Rattle.svr_rows.specs.Changes.{changed, refusal_of, with_rows}
 use Rattle.svr_rows.specs.Kept.{IsAscending, IsTableRows, by_id}
 use Rattle.svr_rows.specs.Rows.{TableRows, has_row, id_of, row_at, rows_in, with_row, without_row}
 use Rattle.svr_rows.proofs.ById.{insert_entry-by_id, is_some-row_at, lookup-by_id, remove_entry-by_id}
+use Rattle.svr_rows.proofs.Lawful.{IsTableRows-changed, all-taken}
 use Rattle.svr_rows.proofs.Laws.{rows_in-with_rows, rows_in-with_rows_apart}
 use Rattle.svr_rows.proofs.Tested.{CanPut-insert, CanPut-update, has_row-insert, has_row-update, place-delete}
 use Rattle.svr_schema.specs.declared.schema.Schema.{Schema}
 use Rattle.svr_core.specs.declared.document.Document.{Document}
 use Rattle.svr_core.specs.declared.effect.Effect.{Effect}
 use Rattle.svr_core.specs.declared.effect.Effect.TheVariants as effect
-use Rattle.svr_core.specs.Documents.{IsCatalog, Suits, after_effect, document_of, documents_by_id, effect_of}
+use Rattle.svr_core.specs.Documents.{IsCatalog, MakesBoth, Suits, after_effect, document_of, documents_by_id, effect_of}
 use Rattle.svr_core.specs.Steps.{without_id}
 use Rattle.svr_core.proofs.Accepted.{IsAscending-rows_in, place-put}
 use Rattle.svr_core.proofs.Mapped.{insert_entry-map_values, map_values, remove_entry-map_values}
@@ -63,7 +64,8 @@ some_if s (Some row) h = refl
 
 -- ---- the columns stay
 
-pub kinds-with_rows : (tables : List TableRows) (place : ℕ) (rows : List Row) → map (λ t. t.kinds) (with_rows tables place rows) ≡ map (λ t. t.kinds) tables
+pub kinds-with_rows : (tables : List TableRows) (place : ℕ) (rows : List Row)
+    → map (λ t. t.kinds) (with_rows tables place rows) ≡ map (λ t. t.kinds) tables
 unfolding with_rows
 kinds-with_rows [] place rows = refl
 kinds-with_rows (t ∷ tables) zero rows = refl
@@ -85,14 +87,17 @@ module _ (s : Schema) (tables : List TableRows) (entries : List (ℕ × Document
       → Suits (cond b (effect.Add (document_of s row)) effect.Nothing) entries
   suits_insert row place false e h = tt
   suits_insert row place true e h =
-      let free = ap (λ at. has_row (rows_in tables at) (id_of row)) (sym (same_place place s.text_table e)) ∙ has_row-insert tables place row h in
-      found (id_of row) ∙ none_if s (row_at (rows_in tables s.text_table) (id_of row)) (is_some-row_at (rows_in tables s.text_table) (id_of row) ∙ free)
+      let free = ap (λ at. has_row (rows_in tables at) (id_of row)) (sym (same_place place s.text_table e))
+      ∙ has_row-insert tables place row h in
+      found (id_of row)
+      ∙ none_if s (row_at (rows_in tables s.text_table) (id_of row)) (is_some-row_at (rows_in tables s.text_table) (id_of row) ∙ free)
 
   suits_update : (row : Row) (place : ℕ) (b : Bool) → (place == s.text_table) ≡ b → refusal_of tables (Update place row) ≡ None
       → Suits (cond b (effect.Replace (document_of s row)) effect.Nothing) entries
   suits_update row place false e h = tt
   suits_update row place true e h =
-      let taken = ap (λ at. has_row (rows_in tables at) (id_of row)) (sym (same_place place s.text_table e)) ∙ has_row-update tables place row h in
+      let taken = ap (λ at. has_row (rows_in tables at) (id_of row)) (sym (same_place place s.text_table e))
+      ∙ has_row-update tables place row h in
       subst IsSome (sym (found (id_of row)))
       (some_if s (row_at (rows_in tables s.text_table) (id_of row)) (is_some-row_at (rows_in tables s.text_table) (id_of row) ∙ taken))
 
@@ -114,7 +119,8 @@ module _ (s : Schema) (tables : List TableRows) (entries : List (ℕ × Document
       let same = same_place place s.text_table is in
       h same ∙ ap (documents_by_id s) (sym (rows_in-with_rows tables place rows within) ∙ ap (rows_in (with_rows tables place rows)) same)
   followed e place rows false is within h =
-      kept.documents ∙ ap (documents_by_id s) (sym (rows_in-with_rows_apart tables place rows s.text_table (other_place place s.text_table is)))
+      kept.documents ∙ ap (documents_by_id s)
+      (sym (rows_in-with_rows_apart tables place rows s.text_table (other_place place s.text_table is)))
 
   put_row : (place : ℕ) (row : Row) → place ≡ s.text_table
       → insert_entry nat_cmp entries (id_of row) (document_of s row) ≡ documents_by_id s (with_row (rows_in tables place) row)
@@ -141,29 +147,31 @@ module _ (s : Schema) (tables : List TableRows) (entries : List (ℕ × Document
     documents = followed e place rows (place == s.text_table) refl within h;
   }
 
-  pub IsCatalog-changed : (change : Change) → All IsTableRows (changed tables change) → refusal_of tables change ≡ None
+  pub IsCatalog-changed : (change : Change) → refusal_of tables change ≡ None
       → IsCatalog s (changed tables change) (after_effect (effect_of s change) entries)
-  IsCatalog-changed (Insert place row) lawful h =
+  IsCatalog-changed (Insert place row) h =
       with_others (effect.Add (document_of s row)) place (with_row (rows_in tables place) row)
-      (place-put tables place row (CanPut-insert tables place row h)) lawful (put_row place row)
-  IsCatalog-changed (Update place row) lawful h =
+      (place-put tables place row (CanPut-insert tables place row h)) (IsTableRows-changed tables (Insert place row) kept.rows h)
+      (put_row place row)
+  IsCatalog-changed (Update place row) h =
       with_others (effect.Replace (document_of s row)) place (with_row (rows_in tables place) row)
-      (place-put tables place row (CanPut-update tables place row h)) lawful (put_row place row)
-  IsCatalog-changed (Delete place id) lawful h =
+      (place-put tables place row (CanPut-update tables place row h)) (IsTableRows-changed tables (Update place row) kept.rows h)
+      (put_row place row)
+  IsCatalog-changed (Delete place id) h =
       with_others (effect.Remove id) place (without_row (rows_in tables place) id)
-      (place-delete tables place id h) lawful (taken_row place id)
+      (place-delete tables place id h) (IsTableRows-changed tables (Delete place id) kept.rows h) (taken_row place id)
 
   -- a change that was made, or not
   pub IsCatalog-made : {T E : Type 0} (r : Result T E) (change : Change) (after : List TableRows) (now : List (ℕ × Document))
-      → refusal_of tables change ≡ None → OnOk r (after ≡ changed tables change) → OnOk r (All IsTableRows after)
-      → OnOk r (now ≡ after_effect (effect_of s change) entries) → OnErr r (after ≡ tables) → OnErr r (now ≡ entries) → IsCatalog s after now
-  IsCatalog-made (Ok x) change after now h same lawful documents stays keeps =
-      subst (λ ts. IsCatalog s ts now) (sym same) (subst (IsCatalog s (changed tables change)) (sym documents)
-      (IsCatalog-changed change (subst (All IsTableRows) same lawful) h))
-  IsCatalog-made (Err e) change after now h same lawful documents stays keeps =
-      subst (λ ts. IsCatalog s ts now) (sym stays) (subst (IsCatalog s tables) (sym keeps) kept)
+      → refusal_of tables change ≡ None → MakesBoth change (effect_of s change) tables after entries now r → IsCatalog s after now
+  IsCatalog-made (Ok x) change after now h made =
+      subst (λ ts. IsCatalog s ts now) (sym made.tables_changed)
+      (subst (IsCatalog s (changed tables change)) (sym made.documents_changed) (IsCatalog-changed change h))
+  IsCatalog-made (Err e) change after now h made =
+      subst (λ ts. IsCatalog s ts now) (sym made.tables_err) (subst (IsCatalog s tables) (sym made.documents_err) kept)
 
-  pub IsCatalog-without_id : (place id : ℕ) → place < length tables → All IsTableRows (without_id tables place id)
+  pub IsCatalog-without_id : (place id : ℕ) → place < length tables
       → IsCatalog s (without_id tables place id) (after_effect (cond (place == s.text_table) (effect.Remove id) effect.Nothing) entries)
-  IsCatalog-without_id place id within lawful =
-      with_others (effect.Remove id) place (without_row (rows_in tables place) id) within lawful (taken_row place id)
+  IsCatalog-without_id place id within =
+      with_others (effect.Remove id) place (without_row (rows_in tables place) id) within (all-taken tables place id kept.rows within)
+      (taken_row place id)

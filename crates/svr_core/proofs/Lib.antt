@@ -1,4 +1,5 @@
 pub mod Accepted
+pub mod Asked
 pub mod Followed
 pub mod Inserted
 pub mod Loaded

@@ -1,5 +1,6 @@
 -- Rows that were added one after the other, and are taken out again.
-use Rattle.std.proofs.Common.{◌≡◌, ◌<◌, ◌+◌, ℕ, List, [], ◌∷◌, ◌++◌, map, length, take, reverse, get_or, None, refl, sym, ap, ◌∙◌, subst, arith}
+use Rattle.std.proofs.Common.{◌≡◌, ◌<◌, ◌+◌, ℕ, List, [], ◌∷◌, ◌++◌, map, length, take, reverse, get_or, None, refl, sym, ap, ◌∙◌}
+use Rattle.std.proofs.Common.{subst, arith}
 use Rattle.std.specs.List.{All}
 use Rattle.std.proofs.lemmas.List.{length-map, reverse-append}
 use Rattle.std.proofs.lemmas.Option.{slice_get-get_or}
@@ -66,7 +67,8 @@ ids_in_front (row ∷ front) rest = ap (λ ids. id_of row ∷ ids) (ids_in_front
 pub next_row : (front rest all : List Row) (row : Row) → front ++ reverse (rest ++ row ∷ []) ≡ all → front ++ row ∷ reverse rest ≡ all
 next_row front rest all row h = ap (λ rs. front ++ rs) (sym (reverse-append rest (row ∷ []))) ∙ h
 
-pub as_many : (s : Schema) (tables : List TableRows) (entries : List (ℕ × Document)) → IsCatalog s tables entries → length tables ≡ length s.tables
+pub as_many : (s : Schema) (tables : List TableRows) (entries : List (ℕ × Document)) → IsCatalog s tables entries
+    → length tables ≡ length s.tables
 as_many s tables entries kept = sym (length-map tables (λ t. t.kinds)) ∙ ap length kept.kinds ∙ length-map s.tables kinds_of
 
 pub HasId-all : (tables : List TableRows) (place : ℕ) (rows : List Row) → All IsTableRows tables → place < length tables

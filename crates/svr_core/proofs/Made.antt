@@ -29,7 +29,8 @@ filter_map-some (x ∷ xs) = ap (λ ys. x ∷ ys) (filter_map-some xs)
 
 pub row_of-cells : (row : Row) (given : List Given) → map Some row.cells ≡ map cell_in given → row ≡ row_of given
 row_of-cells row given h =
-    ap (λ cells. record { cells = cells }) (sym (filter_map-some row.cells) ∙ ap (filter_map (λ o. o)) h ∙ sym (filter_map-map cell_in given))
+    ap (λ cells. record { cells = cells })
+    (sym (filter_map-some row.cells) ∙ ap (filter_map (λ o. o)) h ∙ sym (filter_map-map cell_in given))
 
 kinds_if : (o : Option TableRows) (kinds : List ColumnKind) → option_map (λ t. t.kinds) o ≡ Some kinds → kinds_at o ≡ kinds
 kinds_if None kinds h = absurd (let e : None ≡ Some kinds = h in cc)
@@ -58,5 +59,6 @@ IsCatalog-no_rows s lawful = record {
   lawful = lawful;
   kinds = kinds-no_rows s.tables;
   rows = IsTableRows-all_no_rows s.tables lawful.tables;
-  documents = ap (documents_by_id s) (sym (ap rows_at (slice_get-map no_rows s.tables s.text_table) ∙ rows_at-no_rows (slice_get s.tables s.text_table)));
+  documents = ap (documents_by_id s) (sym (ap rows_at (slice_get-map no_rows s.tables s.text_table)
+      ∙ rows_at-no_rows (slice_get s.tables s.text_table)));
 }

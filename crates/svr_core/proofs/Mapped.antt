@@ -21,7 +21,8 @@ pub insert_entry-map_values : {X Y : Type 0} (f : X → Y) (es : List (ℕ × X)
     → insert_entry nat_cmp (map_values f es) k (f v) ≡ map_values f (insert_entry nat_cmp es k v)
 insert_entry-map_values f [] k v = refl
 insert_entry-map_values f (e ∷ es) k v =
-    insert_step f (nat_cmp k e.0) e es (insert_entry nat_cmp es k v) (insert_entry nat_cmp (map_values f es) k (f v)) k v (insert_entry-map_values f es k v)
+    insert_step f (nat_cmp k e.0) e es (insert_entry nat_cmp es k v)
+    (insert_entry nat_cmp (map_values f es) k (f v)) k v (insert_entry-map_values f es k v)
 
 remove_step : {X Y : Type 0} (f : X → Y) (b : Bool) (e : ℕ × X) (es removed : List (ℕ × X)) (rest : List (ℕ × Y))
     → rest ≡ map_values f removed

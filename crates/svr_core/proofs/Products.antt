@@ -5,7 +5,8 @@ use Rattle.std.proofs.lemmas.Int.{ints}
 use Rattle.std.proofs.lemmas.Nat.{mul-le}
 use Rattle.svr_schema.specs.Lawful.{IsWeight}
 
-pub product-bounds : (a b : ℤ) (m n : ℕ) → unsigned_abs a ≤ m → unsigned_abs b ≤ n → (neg_ℤ (pos (m * n)) ≤ℤ (a *ℤ b)) × ((a *ℤ b) ≤ℤ pos (m * n))
+pub product-bounds : (a b : ℤ) (m n : ℕ) → unsigned_abs a ≤ m → unsigned_abs b ≤ n
+    → (neg_ℤ (pos (m * n)) ≤ℤ (a *ℤ b)) × ((a *ℤ b) ≤ℤ pos (m * n))
 product-bounds (pos x) (pos y) m n h k = let p = mul-le x y m n h k in (omega (arith, ints), omega (arith, ints))
 product-bounds (pos x) (negsuc y) m n h k = let p = mul-le x (suc y) m n h k in (omega (arith, ints), omega (arith, ints))
 product-bounds (negsuc x) (pos y) m n h k = let p = mul-le (suc x) y m n h k in (omega (arith, ints), omega (arith, ints))

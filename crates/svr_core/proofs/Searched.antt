@@ -30,16 +30,19 @@ module _ (s : Schema) (query : List (List ℕ)) where
   hits_step false row rows documents h = h
 
   hits : (m : Mode) (rows : List Row)
-      → map hit_in (filter (λ d. matches m d.terms query) (map (document_of s) rows)) ≡ map (hit_of s) (filter (λ row. matches m (terms_of s row) query) rows)
+      → map hit_in (filter (λ d. matches m d.terms query) (map (document_of s) rows))
+      ≡ map (hit_of s) (filter (λ row. matches m (terms_of s row) query) rows)
   hits m [] = refl
   hits m (row ∷ rows) = hits_step (matches m (terms_of s row) query) row (filter (λ row. matches m (terms_of s row) query) rows)
       (filter (λ d. matches m d.terms query) (map (document_of s) rows)) (hits m rows)
 
-  terms : (rows : List Row) → list_any (λ d. has_any_terms d.terms query) (map (document_of s) rows) ≡ list_any (λ row. has_any_terms (terms_of s row) query) rows
+  terms : (rows : List Row) → list_any (λ d. has_any_terms d.terms query) (map (document_of s) rows)
+      ≡ list_any (λ row. has_any_terms (terms_of s row) query) rows
   terms [] = refl
   terms (row ∷ rows) = ap (λ b. has_any_terms (terms_of s row) query || b) (terms rows)
 
-pub answer_over-is : (c : Catalog) (entries : List (ℕ × Document)) (query : List (List ℕ)) (m : Mode) (k : ℕ) → IsCatalog c.schema c.tables entries
+pub answer_over-is : (c : Catalog) (entries : List (ℕ × Document)) (query : List (List ℕ)) (m : Mode) (k : ℕ)
+    → IsCatalog c.schema c.tables entries
     → answer_over (values_of entries) query m k ≡ answer_of c query m k
 answer_over-is c entries query m k kept =
     let rows = rows_in c.tables c.schema.text_table in

@@ -1,4 +1,4 @@
--- What a change that is accepted has.
+-- Words of private clauses: what a change that is accepted has.
 use Rattle.svr_rows.specs.declared.change.Change.{Change}
 use Rattle.svr_rows.specs.declared.change.Change.TheVariants.{Insert, Update, Delete}
 use Rattle.svr_rows.specs.Rows.{HasId}

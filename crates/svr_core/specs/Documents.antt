@@ -1,5 +1,5 @@
--- What is kept of a document beside its row.
-use Rattle.std.specs.Prelude.{◌≡◌, ℕ, ◌==◌, List, map, if◌then◌else◌, None, IsSome}
+-- Words of private clauses: what is kept of a document beside its row.
+use Rattle.std.specs.Prelude.{◌≡◌, ℕ, ◌==◌, List, map, if◌then◌else◌, None, IsSome, Result, OnOk, OnErr}
 use Rattle.std.specs.BTreeMap.{insert_entry, is_at}
 use Rattle.std.specs.List.{All, filter, list_any}
 use Rattle.std.specs.Map.{lookup, remove_entry}
@@ -11,6 +11,7 @@ use Rattle.svr_request.specs.declared.reply.Answer.{Answer}
 use Rattle.svr_rows.specs.declared.change.Change.{Change}
 use Rattle.svr_rows.specs.declared.change.Change.TheVariants.{Insert, Update, Delete}
 use Rattle.svr_rows.specs.declared.row.Row.{Row}
+use Rattle.svr_rows.specs.Changes.{changed}
 use Rattle.svr_rows.specs.Kept.{IsTableRows}
 use Rattle.svr_rows.specs.Rows.{TableRows, id_of, kinds_of, rows_in}
 use Rattle.svr_schema.specs.declared.schema.Schema.{Schema}
@@ -57,6 +58,14 @@ Suits effect.Nothing entries = Unit {0}
 Suits (effect.Add d) entries = lookup (is_at (nat_cmp d.id)) entries ≡ None
 Suits (effect.Replace d) entries = IsSome (lookup (is_at (nat_cmp d.id)) entries)
 Suits (effect.Remove id) entries = Unit {0}
+
+-- a change of rows and documents: both follow it, or both stay
+pub record MakesBoth {T E : Type 0} (change : Change) (effect : Effect) (tables after : List TableRows)
+    (entries now : List (ℕ × Document)) (result : Result T E) : Type 0 where
+  pub tables_changed : OnOk result (after ≡ changed tables change)
+  pub documents_changed : OnOk result (now ≡ after_effect effect entries)
+  pub tables_err : OnErr result (after ≡ tables)
+  pub documents_err : OnErr result (now ≡ entries)
 
 -- a lawful schema, tables of its columns, and the documents of their rows
 pub record IsCatalog (schema : Schema) (tables : List TableRows) (entries : List (ℕ × Document)) : Type 0 where

@@ -8,7 +8,8 @@ use Rattle.svr_request.specs.declared.refusal.Refusal.{Refusal}
 use Rattle.svr_request.specs.declared.refusal.Refusal.TheVariants as refusal
 use Rattle.svr_request.specs.declared.reply.Answer.{Answer}
 use Rattle.svr_csvload.specs.Blocks.{rows_in_block}
-use Rattle.svr_request.specs.Requests.{Submitted, Wanted, schema, insert, update, delete, load, search, merge, merge_begin, merge_slice, merge_publish}
+use Rattle.svr_request.specs.Requests.{Submitted, Wanted, schema, insert, update, delete, load, search, merge, merge_begin}
+use Rattle.svr_request.specs.Requests.{merge_slice, merge_publish}
 use Rattle.svr_rows.specs.declared.change.Change.{Change}
 use Rattle.svr_rows.specs.declared.change.Change.TheVariants.{Insert, Update, Delete}
 use Rattle.svr_rows.specs.declared.change.RowRefusal.{RowRefusal}
@@ -64,17 +65,17 @@ schema_outcome None d = by_rules (schema_in d)
 -- ---- changes
 
 -- a refused row, by its number where it is one of a load
-abbrev pub row_refusal : Option ℕ → RowRefusal → Refusal
-row_refusal n why.NoTable = refusal.NoTable
-row_refusal n (why.BadRow column) = refusal.BadRow column
-row_refusal n (why.TextTooLong column) = refusal.TextTooLong n
-row_refusal n why.KeyExists = refusal.KeyExists n
-row_refusal n why.NoRow = refusal.NoRow
-row_refusal n why.TableFull = refusal.TableFull n
-row_refusal n why.TextFull = refusal.TextFull n
+abbrev pub refusal_of_row : Option ℕ → RowRefusal → Refusal
+refusal_of_row n why.NoTable = refusal.NoTable
+refusal_of_row n (why.BadRow column) = refusal.BadRow column
+refusal_of_row n (why.TextTooLong column) = refusal.TextTooLong n
+refusal_of_row n why.KeyExists = refusal.KeyExists n
+refusal_of_row n why.NoRow = refusal.NoRow
+refusal_of_row n why.TableFull = refusal.TableFull n
+refusal_of_row n why.TextFull = refusal.TextFull n
 
 abbrev pub unless_refused : Option RowRefusal → Catalog → Outcome
-unless_refused (Some r) c = refused (row_refusal None r)
+unless_refused (Some r) c = refused (refusal_of_row None r)
 unless_refused None c = changes_to c
 
 abbrev pub change_outcome : Catalog → Change → Outcome
@@ -90,26 +91,38 @@ unless_bad None later = later
 
 -- a change of a row in a table
 abbrev pub row_outcome : Catalog → (Row → Change) → ℕ → List Given → Outcome
-row_outcome c change table given = unless_bad (bad_column (kinds_in c.tables table) (map cell_in given)) (change_outcome c (change (row_of given)))
+row_outcome c change table given =
+    unless_bad (bad_column (kinds_in c.tables table) (map cell_in given)) (change_outcome c (change (row_of given)))
 
 -- the table of a name, and what comes of the request in it
 abbrev pub in_table : Option ℕ → (ℕ → Outcome) → Outcome
 in_table None f = refused refusal.NoTable
 in_table (Some table) f = f table
 
+abbrev pub insert_outcome : Catalog → List ℕ → List Given → Outcome
+insert_outcome c table given = in_table (table_at c.schema.tables table) (λ at. row_outcome c (λ row. Insert at row) at given)
+
+abbrev pub update_outcome : Catalog → List ℕ → List Given → Outcome
+update_outcome c table given = in_table (table_at c.schema.tables table) (λ at. row_outcome c (λ row. Update at row) at given)
+
+abbrev pub delete_outcome : Catalog → List ℕ → ℕ → Outcome
+delete_outcome c table id = in_table (table_at c.schema.tables table) (λ at. change_outcome c (Delete at id))
+
 -- ---- loads
 
 abbrev pub unless_row_refused : Option (ℕ × RowRefusal) → Catalog → Outcome
-unless_row_refused (Some r) c = refused (row_refusal (Some r.0) r.1)
+unless_row_refused (Some r) c = refused (refusal_of_row (Some r.0) r.1)
 unless_row_refused None c = changes_to c
 
 -- all rows of a block are inserted, one after the other, or none
 abbrev pub rows_outcome : Catalog → ℕ → Result (List Row) ℕ → Outcome
 rows_outcome c table (Err n) = refused (refusal.BadCsv n)
-rows_outcome c table (Ok rows) = unless_row_refused (load_refusal c.tables table rows) (record { schema = c.schema; tables = inserted c.tables table rows })
+rows_outcome c table (Ok rows) =
+    unless_row_refused (load_refusal c.tables table rows) (record { schema = c.schema; tables = inserted c.tables table rows })
 
-abbrev pub load_outcome : Catalog → Bool → List ℕ → ℕ → Outcome
-load_outcome c header block table = rows_outcome c table (rows_in_block (kinds_in c.tables table) header block)
+abbrev pub load_outcome : Catalog → List ℕ → Bool → List ℕ → Outcome
+load_outcome c table header block =
+    in_table (table_at c.schema.tables table) (λ at. rows_outcome c at (rows_in_block (kinds_in c.tables at) header block))
 
 -- ---- searches
 
@@ -128,37 +141,23 @@ search_outcome c (t ∷ terms) m k = if nat_lt 16 (length (t ∷ terms)) then re
 
 -- ---- all requests
 
-abbrev pub insert_outcome : Catalog → List ℕ → List Given → Outcome
-insert_outcome c table given = in_table (table_at c.schema.tables table) (λ at. row_outcome c (λ row. Insert at row) at given)
+-- what needs a schema
+abbrev pub with_catalog : Option Catalog → (Catalog → Outcome) → Outcome
+with_catalog None f = refused refusal.NoSchema
+with_catalog (Some c) f = f c
 
-abbrev pub update_outcome : Catalog → List ℕ → List Given → Outcome
-update_outcome c table given = in_table (table_at c.schema.tables table) (λ at. row_outcome c (λ row. Update at row) at given)
-
--- what needs a schema, with the block that comes with it
-abbrev pub served_outcome : Catalog → Wanted → List ℕ → Outcome
-served_outcome c (insert table given) block = insert_outcome c table given
-served_outcome c (update table given) block = update_outcome c table given
-served_outcome c (delete table id) block = in_table (table_at c.schema.tables table) (λ at. change_outcome c (Delete at id))
-served_outcome c (load table header) block = in_table (table_at c.schema.tables table) (load_outcome c header block)
-served_outcome c (search query m k) block = search_outcome c (tokens_of query) m k
-served_outcome c (schema d) block = refused refusal.SchemaSet
-served_outcome c merge block = refused refusal.UnknownOp
-served_outcome c merge_begin block = refused refusal.UnknownOp
-served_outcome c (merge_slice terms) block = refused refusal.UnknownOp
-served_outcome c merge_publish block = refused refusal.UnknownOp
-
-abbrev pub with_catalog : Option Catalog → Wanted → List ℕ → Outcome
-with_catalog None w block = refused refusal.NoSchema
-with_catalog (Some c) w block = served_outcome c w block
-
--- merges aren't served as yet
+-- what comes of a request with the block that comes with it; merges aren't served as yet
 abbrev pub wanted_outcome : Option Catalog → Wanted → List ℕ → Outcome
 wanted_outcome c (schema d) block = schema_outcome c d
+wanted_outcome c (insert table given) block = with_catalog c (λ c. insert_outcome c table given)
+wanted_outcome c (update table given) block = with_catalog c (λ c. update_outcome c table given)
+wanted_outcome c (delete table id) block = with_catalog c (λ c. delete_outcome c table id)
+wanted_outcome c (load table header) block = with_catalog c (λ c. load_outcome c table header block)
+wanted_outcome c (search query m k) block = with_catalog c (λ c. search_outcome c (tokens_of query) m k)
 wanted_outcome c merge block = refused refusal.UnknownOp
 wanted_outcome c merge_begin block = refused refusal.UnknownOp
 wanted_outcome c (merge_slice terms) block = refused refusal.UnknownOp
 wanted_outcome c merge_publish block = refused refusal.UnknownOp
-wanted_outcome c w block = with_catalog c w block
 
 abbrev pub asked_outcome : Option Catalog → Result Wanted Refusal → List ℕ → Outcome
 asked_outcome c (Err why) block = refused why

@@ -1,5 +1,5 @@
--- What the parts of the program answer, beside the outcome of a request.
-use Rattle.std.specs.Prelude.{◌≡◌, ◌⊎◌, ◌≤◌, ℕ, List, [], ◌∷◌, length, Option, Some, Result, Err}
+-- Words of private clauses: what the parts of the program answer, beside the outcome of a request.
+use Rattle.std.specs.Prelude.{◌≡◌, ◌⊎◌, ◌≤◌, ℕ, List, [], ◌∷◌, length, Option, Some, Result, Err, IfErr, IfOk, OnErr}
 use Rattle.svr_request.specs.declared.refusal.Refusal.{Refusal}
 use Rattle.svr_request.specs.declared.refusal.Refusal.TheVariants as refusal
 use Rattle.svr_csvload.specs.declared.refusal.CsvRefusal.{CsvRefusal}
@@ -15,7 +15,7 @@ use Rattle.svr_tokens.specs.declared.query.QueryRefusal.{QueryRefusal}
 use Rattle.svr_tokens.specs.declared.query.QueryRefusal.TheVariants as query
 use Rattle.svr_core.specs.declared.catalog.Done.{Done}
 use Rattle.svr_core.specs.declared.catalog.Done.TheVariants.{Changed, Found}
-use Rattle.svr_core.specs.Outcomes.{Outcome, refused, found, changes_to, row_refusal}
+use Rattle.svr_core.specs.Outcomes.{Outcome, refused, found, changes_to, refusal_of_row}
 use Rattle.svr_core.specs.State.{Catalog}
 
 -- a refusal is that of the outcome, or want of memory
@@ -28,7 +28,7 @@ query_refusal query.TooManyTerms = refusal.TooManyTerms
 query_refusal query.Memory = refusal.Memory
 
 abbrev pub refusal_of_load : LoadRefusal → Refusal
-refusal_of_load (load.At n why) = row_refusal (Some n) why
+refusal_of_load (load.At n why) = refusal_of_row (Some n) why
 refusal_of_load load.Memory = refusal.Memory
 
 abbrev pub refusal_of_block : CsvRefusal → Refusal
@@ -40,13 +40,20 @@ schema_refusal (error.Rule n) = refusal.BadSchema n
 schema_refusal error.Memory = refusal.Memory
 
 -- what was done is the outcome, and a catalog that was not changed is the same
-abbrev pub IsDone : Outcome → Catalog → Catalog → Done → Type 0
-IsDone o before after Changed = o ≡ changes_to after
-IsDone o before after (Found answer) = (o ≡ found answer) × (after ≡ before)
+abbrev pub IsServed : Outcome → Option Catalog → Option Catalog → Done → Type 0
+IsServed o before after Changed = (c : Catalog) × (o ≡ changes_to c) × (after ≡ Some c)
+IsServed o before after (Found answer) = (o ≡ found answer) × (after ≡ before)
 
 abbrev pub IsShort : Done → Type 0
 IsShort Changed = Unit {0}
 IsShort (Found answer) = length answer.hits ≤ 1000
+
+-- what the outcome says was done, or it is refused, and then nothing has changed; an answer has at most 1,000 hits
+pub record Serves (o : Outcome) (before after : Option Catalog) (result : Result Done Refusal) : Type 0 where
+  pub done : IfOk result (IsServed o before after)
+  pub short : IfOk result IsShort
+  pub refused : IfErr result (MayRefuse o)
+  pub err : OnErr result (after ≡ before)
 
 -- values make no row, at this column, or memory is wanting
 abbrev pub IsBadRow : Option ℕ → Refusal → Type 0
@@ -55,11 +62,6 @@ IsBadRow bad why = ((column : ℕ) × (bad ≡ Some column) × (why ≡ refusal.
 -- a block's record makes no row, the one of this number, or memory is wanting
 abbrev pub IsBadRecord : Result (List Row) ℕ → Refusal → Type 0
 IsBadRecord rows why = ((n : ℕ) × (rows ≡ Err n) × (why ≡ refusal.BadCsv n)) ⊎ (why ≡ refusal.Memory)
-
--- what was done is the outcome, where a catalog may be set
-abbrev pub IsServed : Outcome → Option Catalog → Option Catalog → Done → Type 0
-IsServed o before after Changed = (c : Catalog) × (o ≡ changes_to c) × (after ≡ Some c)
-IsServed o before after (Found answer) = (o ≡ found answer) × (after ≡ before)
 
 -- the tables without the row of this id
 abbrev pub without_id : List TableRows → ℕ → ℕ → List TableRows

@@ -1,4 +1,4 @@
--- Components whose weights are in their range.
+-- Words of private clauses: components whose weights are in their range.
 use Rattle.svr_schema.specs.declared.component.Component.{Component}
 use Rattle.svr_schema.specs.Lawful.{IsWeight}
 use Rattle.svr_core.specs.Scores.{weight_of}

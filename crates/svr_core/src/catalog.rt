@@ -1,12 +1,11 @@
 ghost use Rattle.std.specs.Prelude.{◌≡◌, ◌<◌, ◌≤◌, map, length, None, Some, IfOk, IfErr, OnOk, OnErr};
-ghost use Rattle.svr_request.specs.Requests.{seen};
 ghost use Rattle.svr_rows.specs.Changes.{changed, refusal_of};
 ghost use Rattle.svr_rows.specs.Rows.{bad_column, cell_in, kinds_in, kinds_of, no_rows};
 ghost use Rattle.svr_schema.specs.Lawful.{IsSchema, IsTable};
 ghost use Rattle.svr_schema.specs.Lookups.{table_at};
 ghost use Rattle.svr_tokens.specs.Tokens.{tokens_of};
-ghost use Rattle.svr_core.specs.Outcomes.{changes_to, change_outcome, found, insert_outcome, k_of, row_of, search_outcome, served_outcome, update_outcome};
-ghost use Rattle.svr_core.specs.Steps.{IsBadRow, IsDone, IsShort, MayRefuse};
+ghost use Rattle.svr_core.specs.Outcomes.{change_outcome, delete_outcome, found, insert_outcome, k_of, row_of, search_outcome, update_outcome};
+ghost use Rattle.svr_core.specs.Steps.{IsBadRow, MayRefuse, Serves};
 
 mod load;
 
@@ -19,7 +18,7 @@ use std::collections::BTreeMap;
 use std::marker::Model;
 use svr_edge::{Items, Memory};
 use svr_num::{DocId, Mode};
-use svr_request::{Answer, Refusal, Request};
+use svr_request::{Answer, Refusal};
 use svr_rows::{Change, Given, Row, Tables, TypedRefusal, typed_row};
 use svr_schema::{Schema, Table};
 use svr_tokens::query_terms;
@@ -68,41 +67,38 @@ impl Catalog {
         })
     }
 
-    /// Does what a request asks for, with the block that comes with it.
-    pub fn serve(&mut self, alloc: Global, request: Request, block: &[u8]) -> Result<Done, Refusal>
-        requires { length block.now ≤ 8388608 }
-        ensures done { IfOk result (IsDone (served_outcome self.old (seen request) block.now) self.old self.new) }
-        ensures short { IfOk result IsShort }
-        ensures refused { IfErr result (MayRefuse (served_outcome self.old (seen request) block.now)) }
-        ensures err { OnErr result (self.new ≡ self.old) }
+    /// Inserts the row that values make.
+    pub fn insert(
+        &mut self,
+        alloc: Global,
+        name: &str,
+        given: Items<Given>,
+    ) -> Result<Done, Refusal>
+        ensures { Serves (insert_outcome self.old name.now given) (Some self.old) (Some self.new) result }
     {
-        match request {
-            Request::Insert { table, row } => {
-                let change = self.insertion(alloc, table.as_str(), row)?;
-                self.change(alloc, change)
-            }
-            Request::Update { table, row } => {
-                let change = self.replacement(alloc, table.as_str(), row)?;
-                self.change(alloc, change)
-            }
-            Request::Delete { table, id } => {
-                let table = self.table(table.as_str())?;
-                self.change(alloc, Change::Delete { table, id })
-            }
-            Request::Load { table, header } => {
-                let table = self.table(table.as_str())?;
-                let rows = self.rows(alloc, table, header, block)?;
-                self.load(alloc, table, rows)
-            }
-            Request::Search { query, mode, k } => {
-                Ok(Done::Found(self.search(alloc, query.as_str(), mode, k)?))
-            }
-            Request::Schema(_) => Err(Refusal::SchemaSet),
-            Request::Merge
-            | Request::MergeBegin
-            | Request::MergeSlice { .. }
-            | Request::MergePublish => Err(Refusal::UnknownOp),
-        }
+        let change = self.insertion(alloc, name, given)?;
+        self.change(alloc, change)
+    }
+
+    /// Puts the row that values make in the place of the one that has its id.
+    pub fn update(
+        &mut self,
+        alloc: Global,
+        name: &str,
+        given: Items<Given>,
+    ) -> Result<Done, Refusal>
+        ensures { Serves (update_outcome self.old name.now given) (Some self.old) (Some self.new) result }
+    {
+        let change = self.replacement(alloc, name, given)?;
+        self.change(alloc, change)
+    }
+
+    /// Takes out the row with the id.
+    pub fn delete(&mut self, alloc: Global, name: &str, id: DocId) -> Result<Done, Refusal>
+        ensures { Serves (delete_outcome self.old name.now id) (Some self.old) (Some self.new) result }
+    {
+        let table = self.table(name)?;
+        self.change(alloc, Change::Delete { table, id })
     }
 
     /// The place of a table.
@@ -123,23 +119,13 @@ impl Catalog {
         &self.schema.tables.as_slice()[table as usize]
     }
 
-    /// The row that values make in a table.
-    fn row(&self, alloc: Global, table: u8, given: Items<Given>) -> Result<Row, Refusal>
-        requires there { table < length self.now.schema.tables }
-        ensures row { IfOk result (λ row. row ≡ row_of given) }
-        ensures fits { OnOk result (bad_column (kinds_in self.now.tables table) (map cell_in given) ≡ None) }
-        ensures refused { IfErr result (IsBadRow (bad_column (kinds_in self.now.tables table) (map cell_in given))) }
-    {
-        row_in(alloc, self.declared(table), given)
-    }
-
     /// The insert of a row that values make.
     fn insertion(&self, alloc: Global, name: &str, given: Items<Given>) -> Result<Change, Refusal>
         ensures change { IfOk result (λ change. insert_outcome self.now name.now given ≡ change_outcome self.now change) }
         ensures refused { IfErr result (MayRefuse (insert_outcome self.now name.now given)) }
     {
         let table = self.table(name)?;
-        let row = self.row(alloc, table, given)?;
+        let row = row_in(alloc, self.declared(table), given)?;
         Ok(Change::Insert { table, row })
     }
 
@@ -149,16 +135,13 @@ impl Catalog {
         ensures refused { IfErr result (MayRefuse (update_outcome self.now name.now given)) }
     {
         let table = self.table(name)?;
-        let row = self.row(alloc, table, given)?;
+        let row = row_in(alloc, self.declared(table), given)?;
         Ok(Change::Update { table, row })
     }
 
     /// Makes a change, unless a row refuses it.
     fn change(&mut self, alloc: Global, change: Change) -> Result<Done, Refusal>
-        ensures done { IfOk result (λ done. done ≡ Done.Changed) }
-        ensures changed { OnOk result (change_outcome self.old change ≡ changes_to self.new) }
-        ensures refused { IfErr result (MayRefuse (change_outcome self.old change)) }
-        ensures err { OnErr result (self.new ≡ self.old) }
+        ensures { Serves (change_outcome self.old change) (Some self.old) (Some self.new) result }
     {
         self.tables
             .check(&change)
@@ -178,7 +161,7 @@ impl Catalog {
     }
 
     /// The best `k` documents that match a query.
-    fn search(&self, alloc: Global, query: &str, mode: Mode, k: i128) -> Result<Answer, Refusal>
+    pub fn search(&self, alloc: Global, query: &str, mode: Mode, k: i128) -> Result<Answer, Refusal>
         ensures found { IfOk result (λ answer. search_outcome self.now (tokens_of query.now) mode k ≡ found answer) }
         ensures short { IfOk result (λ answer. length answer.hits ≤ 1000) }
         ensures refused { IfErr result (MayRefuse (search_outcome self.now (tokens_of query.now) mode k)) }

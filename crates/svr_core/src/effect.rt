@@ -1,12 +1,7 @@
-ghost use Rattle.std.specs.Prelude.{◌≡◌, ◌<◌, length, None, IsSome, IfOk, OnOk, OnErr, if◌then◌else◌};
-ghost use Rattle.std.specs.List.{All};
-ghost use Rattle.std.specs.BTreeMap.{insert_entry, is_at};
-ghost use Rattle.std.specs.Map.{lookup, remove_entry};
-ghost use Rattle.std.specs.Ordering.{nat_cmp};
-ghost use Rattle.svr_rows.specs.Changes.{changed, refusal_of};
-ghost use Rattle.svr_rows.specs.Kept.{IsTableRows};
+ghost use Rattle.std.specs.Prelude.{◌≡◌, ◌<◌, length, None, IfOk, if◌then◌else◌};
+ghost use Rattle.svr_rows.specs.Changes.{refusal_of};
 ghost use Rattle.svr_schema.specs.Lawful.{IsSchema};
-ghost use Rattle.svr_core.specs.Documents.{Suits, after_effect, effect_of};
+ghost use Rattle.svr_core.specs.Documents.{MakesBoth, Suits, after_effect, effect_of};
 ghost use Rattle.svr_core.specs.Changing.{RowHasId};
 ghost use Rattle.svr_core.specs.Steps.{without_id};
 
@@ -54,13 +49,8 @@ fn add(
     change: Change,
 ) -> Result<(), Memory>
     requires accepted { refusal_of tables.old change ≡ None }
-    requires absent { lookup (is_at (nat_cmp document.id)) documents.old.entries ≡ None }
-    ensures tables { OnOk result (tables.new ≡ changed tables.old change) }
-    ensures documents { OnOk result
-        (documents.new.entries ≡ insert_entry nat_cmp documents.old.entries document.id document) }
-    ensures tables_err { OnErr result (tables.new ≡ tables.old) }
-    ensures lawful { OnOk result (All IsTableRows tables.new) }
-    ensures documents_err { OnErr result (documents.new.entries ≡ documents.old.entries) }
+    requires suits { Suits (Effect.Add document) documents.old.entries }
+    ensures { MakesBoth change (Effect.Add document) tables.old tables.new documents.old.entries documents.new.entries result }
 {
     let id = document.id;
     documents.insert(id, document)?;
@@ -79,13 +69,8 @@ fn replace(
     change: Change,
 ) -> Result<(), Memory>
     requires accepted { refusal_of tables.old change ≡ None }
-    requires present { IsSome (lookup (is_at (nat_cmp document.id)) documents.old.entries) }
-    ensures tables { OnOk result (tables.new ≡ changed tables.old change) }
-    ensures documents { OnOk result
-        (documents.new.entries ≡ insert_entry nat_cmp documents.old.entries document.id document) }
-    ensures tables_err { OnErr result (tables.new ≡ tables.old) }
-    ensures lawful { OnOk result (All IsTableRows tables.new) }
-    ensures documents_err { OnErr result (documents.new.entries ≡ documents.old.entries) }
+    requires suits { Suits (Effect.Replace document) documents.old.entries }
+    ensures { MakesBoth change (Effect.Replace document) tables.old tables.new documents.old.entries documents.new.entries result }
 {
     tables.apply(change)?;
     let replaced: Result<_, _> = documents.insert(document.id, document);
@@ -101,11 +86,7 @@ fn remove(
     change: Change,
 ) -> Result<(), Memory>
     requires accepted { refusal_of tables.old change ≡ None }
-    ensures tables { OnOk result (tables.new ≡ changed tables.old change) }
-    ensures documents { OnOk result (documents.new.entries ≡ remove_entry (is_at (nat_cmp id)) documents.old.entries) }
-    ensures tables_err { OnErr result (tables.new ≡ tables.old) }
-    ensures lawful { OnOk result (All IsTableRows tables.new) }
-    ensures documents_err { OnErr result (documents.new.entries ≡ documents.old.entries) }
+    ensures { MakesBoth change (Effect.Remove id) tables.old tables.new documents.old.entries documents.new.entries result }
 {
     tables.apply(change)?;
     documents.remove(&id);
@@ -121,11 +102,7 @@ pub fn carry_out(
 ) -> Result<(), Memory>
     requires accepted { refusal_of tables.old change ≡ None }
     requires suits { Suits effect documents.old.entries }
-    ensures tables { OnOk result (tables.new ≡ changed tables.old change) }
-    ensures documents { OnOk result (documents.new.entries ≡ after_effect effect documents.old.entries) }
-    ensures tables_err { OnErr result (tables.new ≡ tables.old) }
-    ensures lawful { OnOk result (All IsTableRows tables.new) }
-    ensures documents_err { OnErr result (documents.new.entries ≡ documents.old.entries) }
+    ensures { MakesBoth change effect tables.old tables.new documents.old.entries documents.new.entries result }
 {
     match effect {
         Effect::Nothing => {
@@ -148,7 +125,6 @@ pub fn take_out(
 )
     requires { table < length tables.old }
     ensures tables { tables.new ≡ without_id tables.old table id }
-    ensures lawful { All IsTableRows tables.new }
     ensures documents { documents.new.entries
         ≡ after_effect (if is_document then Effect.Remove id else Effect.Nothing) documents.old.entries }
 {

@@ -1,5 +1,5 @@
 ghost use Rattle.std.specs.Prelude.{◌≡◌};
-ghost use Rattle.svr_core.specs.Outcomes.{row_refusal};
+ghost use Rattle.svr_core.specs.Outcomes.{refusal_of_row};
 ghost use Rattle.svr_core.specs.Steps.{query_refusal, refusal_of_block, refusal_of_load, schema_refusal};
 
 use svr_csvload::CsvRefusal;
@@ -10,7 +10,7 @@ use svr_tokens::QueryRefusal;
 
 /// The refusal of a row, by its number where it is one of a load.
 pub fn refused_row(number: Option<u32>, why: RowRefusal) -> Refusal
-    ensures { result ≡ row_refusal number why }
+    ensures { result ≡ refusal_of_row number why }
 {
     match why {
         RowRefusal::NoTable => Refusal::NoTable,

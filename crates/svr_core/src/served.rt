@@ -7,7 +7,7 @@ ghost use Rattle.svr_rows.specs.Rows.{no_rows};
 ghost use Rattle.svr_core.specs.Outcomes.{changes_to, is_own, is_plain, outcome_of, refused, schema_outcome, served_so_far, wanted_outcome};
 ghost use Rattle.svr_core.specs.Run.{MayReply, reply_to, state_after, state_then, wants_memory};
 ghost use Rattle.svr_core.specs.State.{empty};
-ghost use Rattle.svr_core.specs.Steps.{IsServed, IsShort, MayRefuse};
+ghost use Rattle.svr_core.specs.Steps.{IsServed, IsShort, MayRefuse, Serves};
 
 use crate::catalog::{Catalog, Done};
 use crate::refusals::refused_schema;
@@ -98,23 +98,34 @@ impl Core {
     /// Does what a request asks for, and counts no change.
     fn serve(&mut self, alloc: Global, request: Request, block: &[u8]) -> Result<Done, Refusal>
         requires { length block.now ≤ 8388608 }
-        ensures done { IfOk result (IsServed (wanted_outcome self.old.catalog (seen request) block.now) self.old.catalog self.new.catalog) }
-        ensures short { IfOk result IsShort }
+        ensures serves { Serves (wanted_outcome self.old.catalog (seen request) block.now) self.old.catalog self.new.catalog result }
         ensures changes { self.new.changes ≡ self.old.changes }
-        ensures refused { IfErr result (MayRefuse (wanted_outcome self.old.catalog (seen request) block.now)) }
-        ensures err { OnErr result (self.new ≡ self.old) }
     {
-        match request {
-            Request::Schema(value) => self.set_schema(alloc, &value),
-            Request::Merge
-            | Request::MergeBegin
-            | Request::MergeSlice { .. }
-            | Request::MergePublish => Err(Refusal::UnknownOp),
-            request => {
-                let Some(catalog) = &mut self.catalog else {
-                    return Err(Refusal::NoSchema);
-                };
-                catalog.serve(alloc, request, block)
+        match (request, &mut self.catalog) {
+            (Request::Schema(value), _) => self.set_schema(alloc, &value),
+            (
+                Request::Merge
+                | Request::MergeBegin
+                | Request::MergeSlice { .. }
+                | Request::MergePublish,
+                _,
+            ) => Err(Refusal::UnknownOp),
+            (_, None) => Err(Refusal::NoSchema),
+            (Request::Insert { table, row }, Some(catalog)) => {
+                catalog.insert(alloc, table.as_str(), row)
+            }
+            (Request::Update { table, row }, Some(catalog)) => {
+                catalog.update(alloc, table.as_str(), row)
+            }
+            (Request::Delete { table, id }, Some(catalog)) => {
+                catalog.delete(alloc, table.as_str(), id)
+            }
+            (Request::Load { table, header }, Some(catalog)) => {
+                catalog.load(alloc, table.as_str(), header, block)
+            }
+            (Request::Search { query, mode, k }, Some(catalog)) => {
+                let answer = catalog.search(alloc, query.as_str(), mode, k)?;
+                Ok(Done::Found(answer))
             }
         }
     }

@@ -56,7 +56,8 @@ may_end cfg c = either (ends_with cfg.terminator c) (after_end cfg.terminator c,
     (record { ending = λ _. behind_end cfg.terminator c }) (copies state.InField)
 
 inside : (cfg : Config) (c : ℕ) → Settles (in_field cfg c)
-inside cfg c = either (c == cfg.delimiter) (state.StartField, action.EndField) (unless_end cfg c) (goes_on state.StartField action.EndField refl) (may_end cfg c)
+inside cfg c = either (c == cfg.delimiter) (state.StartField, action.EndField) (unless_end cfg c)
+    (goes_on state.StartField action.EndField refl) (may_end cfg c)
 
 field_begins : (cfg : Config) (c : ℕ) → Settles (start_field cfg c)
 field_begins cfg c = either (cfg.quoting && (c == cfg.quote)) (skip state.InQuoted) (in_field cfg c) (skips state.InQuoted) (inside cfg c)
@@ -65,28 +66,34 @@ no_line : (cfg : Config) (c : ℕ) → Settles (cond (is_byte cfg.comment c) (sk
 no_line cfg c = either (is_byte cfg.comment c) (skip state.InComment) (start_field cfg c) (skips state.InComment) (field_begins cfg c)
 
 record_begins : (cfg : Config) (c : ℕ) → Settles (start_record cfg c)
-record_begins cfg c = either (ends_with cfg.terminator c) (skip state.StartRecord) (cond (is_byte cfg.comment c) (skip state.InComment) (start_field cfg c))
+record_begins cfg c = either (ends_with cfg.terminator c) (skip state.StartRecord)
+    (cond (is_byte cfg.comment c) (skip state.InComment) (start_field cfg c))
     (skips state.StartRecord) (no_line cfg c)
 
 no_quote : (cfg : Config) (c : ℕ) → Settles (cond (cfg.quoting && is_byte cfg.escape c) (skip state.InEscape) (copy state.InQuoted))
-no_quote cfg c = either (cfg.quoting && is_byte cfg.escape c) (skip state.InEscape) (copy state.InQuoted) (skips state.InEscape) (copies state.InQuoted)
+no_quote cfg c = either (cfg.quoting && is_byte cfg.escape c) (skip state.InEscape) (copy state.InQuoted) (skips state.InEscape)
+    (copies state.InQuoted)
 
 each_byte : (cfg : Config) (s : State) (c : ℕ) → Settles (step cfg s c)
 each_byte cfg state.StartRecord c = record_begins cfg c
-each_byte cfg state.AfterCr c = either (c == line_feed) (skip state.StartRecord) (start_record cfg c) (skips state.StartRecord) (record_begins cfg c)
+each_byte cfg state.AfterCr c = either (c == line_feed) (skip state.StartRecord) (start_record cfg c) (skips state.StartRecord)
+    (record_begins cfg c)
 each_byte cfg state.StartField c = field_begins cfg c
 each_byte cfg state.InField c = inside cfg c
 each_byte cfg state.AfterQuote c =
-    either (cfg.quoting && cfg.double_quote && (c == cfg.quote)) (copy state.InQuoted) (in_field cfg c) (copies state.InQuoted) (inside cfg c)
+    either (cfg.quoting && cfg.double_quote && (c == cfg.quote)) (copy state.InQuoted) (in_field cfg c) (copies state.InQuoted)
+    (inside cfg c)
 each_byte cfg state.InQuoted c = either (cfg.quoting && (c == cfg.quote)) (skip state.AfterQuote)
     (cond (cfg.quoting && is_byte cfg.escape c) (skip state.InEscape) (copy state.InQuoted)) (skips state.AfterQuote) (no_quote cfg c)
 each_byte cfg state.InEscape c = copies state.InQuoted
-each_byte cfg state.InComment c = either (c == line_feed) (skip state.StartRecord) (skip state.InComment) (skips state.StartRecord) (skips state.InComment)
+each_byte cfg state.InComment c =
+    either (c == line_feed) (skip state.StartRecord) (skip state.InComment) (skips state.StartRecord) (skips state.InComment)
 
 -- ---- a whole read
 
 -- an answer by cases is the one or the other
-which : {X : Type 0} (b : Bool) (x : X) (later : Option X) (p : X) → cond b (Some x) later ≡ Some p → ((b ≡ true) × (x ≡ p)) ⊎ (later ≡ Some p)
+which : {X : Type 0} (b : Bool) (x : X) (later : Option X) (p : X) → cond b (Some x) later ≡ Some p
+    → ((b ≡ true) × (x ≡ p)) ⊎ (later ≡ Some p)
 which true x later p h = let e : Some x ≡ Some p = h in inl (refl, cc)
 which false x later p h = inr h
 
@@ -97,14 +104,16 @@ pub record Leaves (bytes : List ℕ) (p : Read) : Type 0 where
   pub between : ends_at_end p.1 ≡ false
   pub few : length p.2 ≤ length bytes
 
-last_byte : (b : Bool) (found : List (List ℕ)) (p : Read) → ((b ≡ true) × ((found, state.StartRecord, []) ≡ p)) ⊎ (None ≡ Some p) → Leaves [] p
+last_byte : (b : Bool) (found : List (List ℕ)) (p : Read) → ((b ≡ true) × ((found, state.StartRecord, []) ≡ p)) ⊎ (None ≡ Some p)
+    → Leaves [] p
 last_byte b found p (inl e) = subst (Leaves []) e.1 (record { between = refl; few = omega arith })
 last_byte b found p (inr e) = no_answer p e
 
 first_byte : (c : ℕ) (rest : List ℕ) (found : List (List ℕ)) (turn : State × Action) (later : Option Read) (p : Read)
     → Settles turn → (later ≡ Some p → Leaves rest p)
     → ((is_end turn.1 ≡ true) × ((found, turn.0, rest) ≡ p)) ⊎ (later ≡ Some p) → Leaves (c ∷ rest) p
-first_byte c rest found turn later p settles more (inl e) = subst (Leaves (c ∷ rest)) e.1 (record { between = settles.ending e.0; few = omega arith })
+first_byte c rest found turn later p settles more (inl e) =
+    subst (Leaves (c ∷ rest)) e.1 (record { between = settles.ending e.0; few = omega arith })
 first_byte c rest found turn later p settles more (inr e) = let l = more e in record { between = l.between; few = omega (arith, l.few) }
 
 pub read-leaves : (cfg : Config) (s : State) (fields : List (List ℕ)) (field bytes : List ℕ) (p : Read)
@@ -119,11 +128,13 @@ read-leaves cfg s fields field (c ∷ rest) p h =
     first_byte c rest found turn later p (each_byte cfg s c) (read-leaves cfg turn.0 found (field_after turn.1 c field) rest p)
     (which (is_end turn.1) (found, turn.0, rest) later p h)
 
-no_record : (b : Bool) (found : List (List ℕ)) (p : Read) → b ≡ false → ((b ≡ true) × ((found, state.StartRecord, []) ≡ p)) ⊎ (None ≡ Some p) → length p.2 < 0
+no_record : (b : Bool) (found : List (List ℕ)) (p : Read) → b ≡ false
+    → ((b ≡ true) × ((found, state.StartRecord, []) ≡ p)) ⊎ (None ≡ Some p) → length p.2 < 0
 no_record b found p f (inl e) = absurd (false≢true (sym f ∙ e.0))
 no_record b found p f (inr e) = no_answer p e
 
-fewer : (c : ℕ) (rest : List ℕ) (b : Bool) (found : List (List ℕ)) (s : State) (later : Option Read) (p : Read) → (later ≡ Some p → Leaves rest p)
+fewer : (c : ℕ) (rest : List ℕ) (b : Bool) (found : List (List ℕ)) (s : State) (later : Option Read) (p : Read)
+    → (later ≡ Some p → Leaves rest p)
     → ((b ≡ true) × ((found, s, rest) ≡ p)) ⊎ (later ≡ Some p) → length p.2 < length (c ∷ rest)
 fewer c rest b found s later p more (inl e) = subst (λ q. length q.2 < length (c ∷ rest)) e.1 (omega arith)
 fewer c rest b found s later p more (inr e) = let l = more e in omega (arith, l.few)
@@ -133,7 +144,8 @@ pub shorter : (cfg : Config) (s : State) (fields : List (List ℕ)) (field bytes
     → ends_at_end s ≡ false → next_record cfg s fields field bytes ≡ Some p → length p.2 < length bytes
 unfolding next_record
 shorter cfg s fields field [] p whole h =
-    no_record (ends_at_end s) (fields ++ (field ∷ [])) p whole (which (ends_at_end s) (fields ++ (field ∷ []), state.StartRecord, []) None p h)
+    no_record (ends_at_end s) (fields ++ (field ∷ [])) p whole
+    (which (ends_at_end s) (fields ++ (field ∷ []), state.StartRecord, []) None p h)
 shorter cfg s fields field (c ∷ rest) p whole h =
     let turn = step cfg s c in
     let found = fields_after turn.1 fields field in
@@ -159,7 +171,8 @@ records_from-same cfg (suc n) (suc m) s xs b h k = step-same cfg n m s xs (next_
     (λ p e. let less = shorter cfg s [] [] xs p b e in
     records_from-same cfg n m p.1 p.2 (read-leaves cfg s [] [] xs p e).between (omega (arith, less)) (omega (arith, less)))
 
-few-step : (cfg : Config) (n : ℕ) (xs : List ℕ) (o : Option Read) → ((p : Read) → o ≡ Some p → length (records_from cfg n p.1 p.2) < length xs)
+few-step : (cfg : Config) (n : ℕ) (xs : List ℕ) (o : Option Read)
+    → ((p : Read) → o ≡ Some p → length (records_from cfg n p.1 p.2) < length xs)
     → length (records_next (records_from cfg n) o) ≤ length xs
 few-step cfg n xs None h = omega arith
 few-step cfg n xs (Some p) h = let k = h p refl in omega arith

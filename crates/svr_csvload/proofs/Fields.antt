@@ -1,10 +1,12 @@
 -- What the fields of a record make, from the front on.
 use Rattle.std.proofs.Common.{◌≡◌, ◌≢◌, ◌<◌, ◌≤◌, ◌+◌, ℕ, zero, suc, Bool, true, false, List, [], ◌∷◌, ◌++◌}
 use Rattle.std.proofs.Common.{length, map, drop, Option, Some, None, option_map, get_or, append_assoc, refl, sym, ap, arith, add-one}
+use Rattle.std.specs.Option.{IsSome}
 use Rattle.std.specs.Str.{IsUtf8, is_utf8}
 use Rattle.std.proofs.lemmas.Str.{IsUtf8-from_is_utf8}
 use Rattle.std.proofs.lemmas.List.{drop_all}
 use Rattle.csv.specs.Records.{field_at}
+use Rattle.csv.proofs.RecordFacts.{field-there}
 use Rattle.svr_schema.specs.declared.component.Cell.{Cell}
 use Rattle.svr_schema.specs.declared.table.ColumnKind.{ColumnKind}
 use Rattle.svr_schema.specs.declared.table.Column.{Column}
@@ -19,6 +21,11 @@ is_utf8-not bytes h = not_true (is_utf8 bytes) (λ e. h (IsUtf8-from_is_utf8 byt
 
 abbrev pub kind_in : Column → ColumnKind
 kind_in c = c.kind
+
+pub IsSome-field : {A : Type 0} (read : A → List ℕ) (found : Option A) (fields : List (List ℕ)) (i : ℕ)
+    → option_map read found ≡ field_at fields i → i < length fields → IsSome found
+IsSome-field read None fields i e within = absurd (field-there fields i within (sym e))
+IsSome-field read (Some x) fields i e within = refl
 
 none_in_front : (o : Option Cell) → None ≡ in_front o None
 none_in_front None = refl
@@ -59,6 +66,7 @@ behind-start (Some cells) = refl
 pub behind-none : (cells : List Cell) (more : Option (List Cell)) (o : Option Cell) → o ≡ None → None ≡ behind cells (in_front o more)
 behind-none cells more o e = rw e refl
 
-pub behind-more : (cells : List Cell) (c : Cell) (more : Option (List Cell)) → behind cells (in_front (Some c) more) ≡ behind (cells ++ c ∷ []) more
+pub behind-more : (cells : List Cell) (c : Cell) (more : Option (List Cell))
+    → behind cells (in_front (Some c) more) ≡ behind (cells ++ c ∷ []) more
 behind-more cells c None = refl
 behind-more cells c (Some more) = ap Some (sym (append_assoc cells (c ∷ []) more))

@@ -22,13 +22,14 @@ unfolding ahead
 ahead_known r z e = rw e refl
 
 pub one_read : (a b : Reader (Bor (List ℕ))) (found : Bool) (fields : List (List ℕ)) → IsBetween a → b.first ≡ true
-    → ReadRecord left_of a b found fields
+    → b.flexible ≡ a.flexible → ReadRecord left_of a b found fields
     → MatchBool found (IsBetween b × (ahead a ≡ fields ∷ ahead b)) (ahead a ≡ [])
 unfolding Reached
-one_read a b false fields h first r =
-    let e : next_record default_config a.state [] [] h.bytes ≡ None = rows-end left_of a b fields default_config h.bytes h.plain h.known r in
+one_read a b false fields h first same_rule r =
+    let e : next_record default_config a.state [] [] h.bytes ≡ None =
+    rows-end left_of a b fields default_config h.bytes h.plain h.known r in
     rw (ahead_by a h, e) refl
-one_read a b true fields h first r =
+one_read a b true fields h first same_rule r =
     let m = rows-more left_of a b fields default_config a.state h.bytes h.bytes [] h.plain h.known (refl, refl) r in
     let p : Read = m.2.0 in
     let e : next_record default_config a.state [] [] h.bytes ≡ Some p = m.2.1 in
@@ -41,6 +42,7 @@ one_read a b true fields h first r =
     ∙ rw (same, rest) (sym (ahead_known b m.0 m.1)) in (
       record {
         untrimmed = r.3 ∙ h.untrimmed;
+        flexible = same_rule ∙ h.flexible;
         ready = inl first;
         plain = r.2 ∙ h.plain;
         whole = rw same at whole;

@@ -12,12 +12,14 @@ use Rattle.svr_schema.specs.declared.table.ColumnKind.TheVariants as kind
 use Rattle.svr_schema.specs.declared.table.ColumnKind.{ColumnKind}
 use Rattle.svr_rows.specs.declared.row.Row.{Row}
 use Rattle.svr_rows.specs.Rows.{IsRowOf, begins_negative, fits, misfit_from}
-use Rattle.svr_csvload.specs.Blocks.{bad_record, cells_in, field_cell, in_front, record_row, row_with, rows_in, rows_unless}
+use Rattle.svr_csvload.specs.Blocks.{bad_record, cells_in, field_cell, in_front, record_row, row_with, rows_in_records, rows_unless}
 
-position_from-suc : {X : Type 0} (p : X → Bool) (i : ℕ) (xs : List X) → position_from p (i + 1) xs ≡ option_map (λ k. k + 1) (position_from p i xs)
+position_from-suc : {X : Type 0} (p : X → Bool) (i : ℕ) (xs : List X)
+    → position_from p (i + 1) xs ≡ option_map (λ k. k + 1) (position_from p i xs)
 position_from-suc p i [] = refl
 position_from-suc p i (x ∷ xs) = elim (p x)
-    as (λ b. cond b (Some (i + 1)) (position_from p (i + 1 + 1) xs) ≡ option_map (λ k. k + 1) (cond b (Some i) (position_from p (i + 1) xs))) [
+    as (λ b. cond b (Some (i + 1)) (position_from p (i + 1 + 1) xs)
+    ≡ option_map (λ k. k + 1) (cond b (Some i) (position_from p (i + 1) xs))) [
       | true ↦ refl
       | false ↦ position_from-suc p (i + 1) xs
     ]
@@ -35,25 +37,27 @@ pub after-after : (rows : List Row) (row : Row) (r : Result (List Row) ℕ) → 
 after-after rows row (Ok more) = ap Ok (sym (append_assoc rows (row ∷ []) more))
 after-after rows row (Err n) = ap Err (simp length-append (omega arith))
 
-pub rows_in-end : (kinds : List ColumnKind) → rows_in kinds [] ≡ Ok []
-unfolding rows_in
-rows_in-end kinds = refl
+pub rows_in_records-end : (kinds : List ColumnKind) → rows_in_records kinds [] ≡ Ok []
+unfolding rows_in_records
+rows_in_records-end kinds = refl
 
 one_row : (row : Row) (more : List Row) (o : Option ℕ)
     → rows_unless (option_map (λ k. k + 1) o) (row ∷ more) ≡ after (row ∷ []) (rows_unless o more)
 one_row row more None = refl
 one_row row more (Some k) = ap Err (omega arith)
 
-pub rows_in-row : (kinds : List ColumnKind) (r : List (List ℕ)) (rs : List (List (List ℕ))) (row : Row) → record_row kinds r ≡ Some row
-    → rows_in kinds (r ∷ rs) ≡ after (row ∷ []) (rows_in kinds rs)
-unfolding rows_in
-rows_in-row kinds r rs row e =
-    rw (e, position_from-suc (λ r. is_none (record_row kinds r)) 1 rs) (one_row row (filter_map (record_row kinds) rs) (bad_record kinds rs))
+pub rows_in_records-row : (kinds : List ColumnKind) (r : List (List ℕ)) (rs : List (List (List ℕ))) (row : Row)
+    → record_row kinds r ≡ Some row
+    → rows_in_records kinds (r ∷ rs) ≡ after (row ∷ []) (rows_in_records kinds rs)
+unfolding rows_in_records
+rows_in_records-row kinds r rs row e =
+    rw (e, position_from-suc (λ r. is_none (record_row kinds r)) 1 rs)
+    (one_row row (filter_map (record_row kinds) rs) (bad_record kinds rs))
 
-pub rows_in-bad : (kinds : List ColumnKind) (r : List (List ℕ)) (rs : List (List (List ℕ))) → record_row kinds r ≡ None
-    → rows_in kinds (r ∷ rs) ≡ Err 1
-unfolding rows_in
-rows_in-bad kinds r rs e = rw e refl
+pub rows_in_records-bad : (kinds : List ColumnKind) (r : List (List ℕ)) (rs : List (List (List ℕ))) → record_row kinds r ≡ None
+    → rows_in_records kinds (r ∷ rs) ≡ Err 1
+unfolding rows_in_records
+rows_in_records-bad kinds r rs e = rw e refl
 
 -- each row that a record makes is one of the columns
 fits-int : (o : Option ℤ) (c : Cell) → option_map (λ n. cell.Int n) o ≡ Some c → fits (Some c) kind.Int ≡ true
@@ -94,7 +98,8 @@ with_id kinds cells row false e h g =
     let same : record { cells = cells } ≡ row = cc in
     subst (IsRowOf kinds) same (rw e h)
 
-row_fits : (kinds : List ColumnKind) (o : Option (List Cell)) (row : Row) → ((cells : List Cell) → o ≡ Some cells → misfit_from 0 kinds (map Some cells) ≡ None)
+row_fits : (kinds : List ColumnKind) (o : Option (List Cell)) (row : Row)
+    → ((cells : List Cell) → o ≡ Some cells → misfit_from 0 kinds (map Some cells) ≡ None)
     → option_and_then row_with o ≡ Some row → IsRowOf kinds row
 row_fits kinds None row h e = cc
 row_fits kinds (Some cells) row h e = with_id kinds cells row (begins_negative (map Some cells)) refl (h cells refl) e
@@ -115,7 +120,9 @@ unless_ok : (o : Option ℕ) (all rows : List Row) → rows_unless o all ≡ Ok 
 unless_ok None all rows e = cc
 unless_ok (Some n) all rows e = cc
 
-pub rows_in-fit : (kinds : List ColumnKind) (rs : List (List (List ℕ))) (rows : List Row) → rows_in kinds rs ≡ Ok rows → All (IsRowOf kinds) rows
-unfolding rows_in
-rows_in-fit kinds rs rows e =
-    All-same (IsRowOf kinds) rows (filter_map (record_row kinds) rs) (unless_ok (bad_record kinds rs) (filter_map (record_row kinds) rs) rows e) (all_fit kinds rs)
+pub rows_in_records-fit : (kinds : List ColumnKind) (rs : List (List (List ℕ))) (rows : List Row) → rows_in_records kinds rs ≡ Ok rows
+    → All (IsRowOf kinds) rows
+unfolding rows_in_records
+rows_in_records-fit kinds rs rows e =
+    All-same (IsRowOf kinds) rows (filter_map (record_row kinds) rs)
+    (unless_ok (bad_record kinds rs) (filter_map (record_row kinds) rs) rows e) (all_fit kinds rs)

@@ -1,5 +1,5 @@
--- The records that a reader has ahead.
-use Rattle.std.specs.Prelude.{◌≡◌, ◌+◌, ℕ, List, [], length, false, Option, Some, None}
+-- Words of private clauses: the records that a reader has ahead.
+use Rattle.std.specs.Prelude.{◌≡◌, ◌+◌, ℕ, List, [], length, true, false, Option, Some, None}
 use Rattle.std.specs.Borrow.{Bor}
 use Rattle.csv.specs.Machine.{ends_at_end}
 use Rattle.csv.specs.Reading.{Ready, default_config, records_from, source_of}
@@ -19,9 +19,10 @@ records_at s (Some bytes) = records_from default_config (length bytes + 1) s byt
 unfoldable pub ahead : Reader (Bor (List ℕ)) → List (List (List ℕ))
 ahead r = records_at r.state (unread r)
 
--- it stands between two records, and tells each as it stands
+-- it stands between two records, and tells each as it stands, of any number of fields
 pub record IsBetween (r : Reader (Bor (List ℕ))) : Type 0 where
   pub untrimmed : r.trim ≡ trim.None
+  pub flexible : r.flexible ≡ true
   pub ready : Ready r
   pub plain : r.config ≡ default_config
   pub whole : ends_at_end r.state ≡ false

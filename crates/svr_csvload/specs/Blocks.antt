@@ -1,6 +1,7 @@
 -- The rows of a block of CSV.
-use Rattle.std.specs.Prelude.{ℕ, Bool, List, [], ◌∷◌, drop, map, filter_map, if◌then◌else◌, Option, Some, None, option_map, Result, Ok, Err}
-use Rattle.std.specs.List.{position_from}
+use Rattle.std.specs.Prelude.{◌≡◌, ◌≤◌, ℕ, Bool, List, [], ◌∷◌, drop, length}
+use Rattle.std.specs.Prelude.{map, filter_map, if◌then◌else◌, Option, Some, None, option_map, Result, Ok, Err}
+use Rattle.std.specs.List.{All, position_from}
 use Rattle.std.specs.Option.{is_none, option_and_then}
 use Rattle.std.specs.Str.{is_utf8}
 use Rattle.csv.specs.Reading.{default_config, records, strip_bom}
@@ -10,7 +11,7 @@ use Rattle.svr_schema.specs.declared.component.Cell.TheVariants as cell
 use Rattle.svr_schema.specs.declared.table.ColumnKind.{ColumnKind}
 use Rattle.svr_schema.specs.declared.table.ColumnKind.TheVariants as kind
 use Rattle.svr_rows.specs.declared.row.Row.{Row}
-use Rattle.svr_rows.specs.Rows.{begins_negative}
+use Rattle.svr_rows.specs.Rows.{IsRowOf, begins_negative}
 
 -- the cell that a field is in a column of the kind, if it is one
 abbrev pub field_cell : ColumnKind → List ℕ → Option Cell
@@ -47,12 +48,18 @@ rows_unless None rows = Ok rows
 rows_unless (Some number) rows = Err number
 
 -- the rows of all records, or the number of the first that is no row
-unfoldable pub rows_in : List ColumnKind → List (List (List ℕ)) → Result (List Row) ℕ
-rows_in kinds rs = rows_unless (bad_record kinds rs) (filter_map (record_row kinds) rs)
+unfoldable pub rows_in_records : List ColumnKind → List (List (List ℕ)) → Result (List Row) ℕ
+rows_in_records kinds rs = rows_unless (bad_record kinds rs) (filter_map (record_row kinds) rs)
+
+-- the rows that the records make, each of the columns, and no more than a block has bytes
+pub record AreRows (kinds : List ColumnKind) (made : Result (List Row) ℕ) (rows : List Row) : Type 0 where
+  pub all : made ≡ Ok rows
+  pub fit : All (IsRowOf kinds) rows
+  pub few : length rows ≤ 8388608
 
 -- the records of a block, without the first where that is a header
 abbrev pub records_in : Bool → List ℕ → List (List (List ℕ))
 records_in header bytes = drop (if header then 1 else 0) (records default_config (strip_bom bytes))
 
 abbrev pub rows_in_block : List ColumnKind → Bool → List ℕ → Result (List Row) ℕ
-rows_in_block kinds header bytes = rows_in kinds (records_in header bytes)
+rows_in_block kinds header bytes = rows_in_records kinds (records_in header bytes)

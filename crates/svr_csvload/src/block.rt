@@ -1,16 +1,15 @@
 //! The rows of a block.
 ghost use Rattle.std.specs.Prelude.{◌≡◌, ◌≤◌, ◌∷◌, [], ℕ, IfOk, IfErr, MatchBool, Ok, Err, length, map};
-ghost use Rattle.std.specs.List.{All};
 ghost use Rattle.csv.specs.Reading.{default_config, records, strip_bom};
 ghost use Rattle.csv.specs.Records.{fields_of};
 ghost use Rattle.svr_schema.specs.Lawful.{IsTable};
-ghost use Rattle.svr_rows.specs.Rows.{IsRowOf, kinds_of};
+ghost use Rattle.svr_rows.specs.Rows.{kinds_of};
 ghost use Rattle.svr_csvload.specs.Ahead.{IsBetween, ahead};
-ghost use Rattle.svr_csvload.specs.Blocks.{rows_in, rows_in_block};
+ghost use Rattle.svr_csvload.specs.Blocks.{AreRows, rows_in_block, rows_in_records};
 
 use crate::record::read_row;
 use crate::refusal::CsvRefusal;
-use csv::{ByteRecord, Reader, ReaderBuilder, Trim};
+use csv::{ByteRecord, ErrorKind, Reader, ReaderBuilder, Trim};
 use std::alloc::Global;
 use svr_edge::Memory;
 use svr_rows::Row;
@@ -28,9 +27,8 @@ pub fn read_block(
 ) -> Result<Vec<Row>, CsvRefusal>
     requires lawful { IsTable table.now }
     requires few { length bytes.now ≤ 8388608 }
-    ensures rows { IfOk result (λ rows. rows_in_block (kinds_of table.now) header bytes.now ≡ Ok rows.items) }
-    ensures fit { IfOk result (λ rows. All (IsRowOf (kinds_of table.now)) rows.items) }
-    ensures few { IfOk result (λ rows. length rows.items ≤ 8388608) }
+    ensures rows { IfOk result (λ rows.
+        AreRows (kinds_of table.now) (rows_in_block (kinds_of table.now) header bytes.now) rows.items) }
     ensures number { IfErr result (λ why. (n : ℕ) → why ≡ CsvRefusal.Number n
         → rows_in_block (kinds_of table.now) header bytes.now ≡ Err n) }
 {
@@ -49,11 +47,10 @@ fn read_rows(
 ) -> Result<Vec<Row>, CsvRefusal>
     requires between { IsBetween reader.old }
     requires few { length (ahead reader.old) ≤ 8388608 }
-    ensures rows { IfOk result (λ rows. rows_in (map (λ c. c.kind) columns.now) (ahead reader.old) ≡ Ok rows.items) }
-    ensures fit { IfOk result (λ rows. All (IsRowOf (map (λ c. c.kind) columns.now)) rows.items) }
-    ensures few { IfOk result (λ rows. length rows.items ≤ 8388608) }
+    ensures rows { IfOk result (λ rows. AreRows (map (λ c. c.kind) columns.now)
+        (rows_in_records (map (λ c. c.kind) columns.now) (ahead reader.old)) rows.items) }
     ensures number { IfErr result (λ why. (n : ℕ) → why ≡ CsvRefusal.Number n
-        → rows_in (map (λ c. c.kind) columns.now) (ahead reader.old) ≡ Err n) }
+        → rows_in_records (map (λ c. c.kind) columns.now) (ahead reader.old) ≡ Err n) }
 {
     let mut record = ByteRecord::new(alloc);
     let mut rows = Vec::new(alloc);
@@ -78,15 +75,21 @@ fn block_reader(alloc: Global, bytes: &[u8]) -> Reader<&[u8]>
         .from_reader(alloc, bytes)
 }
 
-/// Reads the next record, and answers whether there was one. Bytes at hand and records of any length leave no cause to
-/// fail but want of memory, which is why every error is told as that.
+/// Reads the next record, and answers whether there was one. Records may have any number of fields and are no texts, so
+/// that no error is left but those of the reader underneath, which has its bytes at hand, and of memory.
 fn read_next(reader: &mut Reader<&[u8]>, into: &mut ByteRecord) -> Result<bool, Memory>
     requires { IsBetween reader.old }
     ensures { IfOk result (λ found. MatchBool found
         (IsBetween reader.new × (ahead reader.old ≡ fields_of into.new ∷ ahead reader.new)) (ahead reader.old ≡ [])) }
 {
-    let Ok(found) = reader.read_byte_record(into) else {
-        return Err(Memory);
-    };
-    Ok(found)
+    match reader.read_byte_record(into) {
+        Ok(found) => Ok(found),
+        Err(error) => match error.kind() {
+            ErrorKind::Io(_) | ErrorKind::OutOfMemory => Err(Memory),
+            ErrorKind::UnequalLengths { .. }
+            | ErrorKind::Utf8 { .. }
+            | ErrorKind::Serialize(_)
+            | ErrorKind::Deserialize { .. } => unreachable!(),
+        },
+    }
 }

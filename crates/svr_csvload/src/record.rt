@@ -43,9 +43,7 @@ fn read_cells(
     }
     let mut cells = Vec::with_capacity(alloc, columns.len())?;
     for (place, column) in columns.iter().enumerate() {
-        let Some(field) = fields.get(place) else {
-            return Ok(None);
-        };
+        let field = fields.get(place).unwrap();
         let Some(cell) = read_cell(alloc, column.kind, field)? else {
             return Ok(None);
         };

@@ -17,12 +17,14 @@ use Rattle.svr_rows.specs.declared.change.Change.TheVariants.{Insert}
 use Rattle.svr_rows.specs.declared.change.RowRefusal.{RowRefusal}
 use Rattle.svr_rows.specs.declared.change.RowRefusal.TheVariants.{NoTable, KeyExists, TableFull, TextFull}
 use Rattle.svr_rows.specs.Rows.{TableRows, has_row, id_of, row_bytes, rows_at, rows_in, text_bytes, with_row}
-use Rattle.svr_rows.specs.Changes.{changed, inserted, load_refusal, numbered, or_then, refusal_from, refusal_of, refuse_if, row_refusal, text_refusal, with_rows, with_rows_of}
+use Rattle.svr_rows.specs.Changes.{changed, inserted, load_refusal, numbered, or_then, refusal_from, refusal_of, refuse_if, row_refusal}
+use Rattle.svr_rows.specs.Changes.{text_refusal, with_rows, with_rows_of}
 use Rattle.svr_rows.specs.Load.{Adds, IsAhead, refusal_beside, refusal_beside_at, refusal_of_new}
 use Rattle.svr_rows.proofs.ById.{is_eq-nat_cmp, one_more-has_row, one_more-length, one_more-sum_by, one_more-with_row}
 use Rattle.svr_rows.proofs.Tested.{insert_is, inserts_if, neither, not_refused, refused_no_table}
 use Rattle.svr_rows.proofs.Sums.{text_bytes-with_rows}
-use Rattle.svr_rows.proofs.Laws.{inserted-more, refusal_from-append, rows_in-with_rows, slice_get-with_rows, with_rows-same, with_rows-twice}
+use Rattle.svr_rows.proofs.Laws.{inserted-more, refusal_from-append, rows_in-with_rows, slice_get-with_rows, with_rows-same}
+use Rattle.svr_rows.proofs.Laws.{with_rows-twice}
 
 pub IsAhead-none : (tables : List TableRows) (place : ℕ) (ahead : Ahead) → ahead.ids.keys ≡ [] → ahead.bytes ≡ text_bytes tables
     → ahead.bytes ≤ 67108864
@@ -99,7 +101,8 @@ module _ (tables : List TableRows) (place : ℕ) (rows : List Row) (ahead : Ahea
       (refusal_beside-is ∙ e)
 
 pub load_refusal-taken : (tables : List TableRows) (place : ℕ) (rows : List Row) (i : ℕ) (row : Row) (ahead : Ahead) (why : RowRefusal)
-    → i < length rows → row ≡ get_or rows i row → IsAhead tables place (take i rows) ahead → refusal_beside tables place ahead row ≡ Some why
+    → i < length rows → row ≡ get_or rows i row → IsAhead tables place (take i rows) ahead
+    → refusal_beside tables place ahead row ≡ Some why
     → load_refusal tables place rows ≡ Some (i + 1, why)
 load_refusal-taken tables place rows i row ahead why within at h refused =
     let split : take i rows ++ row ∷ drop (suc i) rows ≡ rows =

@@ -52,7 +52,7 @@ is_some-row_at (r ∷ rows) id = is_some-cond (id_of r == id) r (row_at rows id)
 
 -- ---- a row is put in
 
-with_row-none : (row : Row) → with_row [] row ≡ row ∷ []
+pub with_row-none : (row : Row) → with_row [] row ≡ row ∷ []
 unfolding with_row
 with_row-none row = refl
 
@@ -75,6 +75,17 @@ with_row-above r row rows h =
     let t : nat_lt (id_of row) (id_of r) ≡ false = grind (arith, nat_tests, h) in
     let e : (id_of r == id_of row) ≡ false = grind (arith, nat_tests, h) in
     ap₂ (λ b d. cond b (row ∷ r ∷ rows) (cond d (row ∷ rows) (r ∷ with_row rows row))) t e
+
+-- the row stands in front of the first, in its place, or behind it
+pub with_row-cases : (Q : List Row → Type 0) (r row : Row) (rows : List Row) → (id_of row < id_of r → Q (row ∷ r ∷ rows))
+    → (id_of r ≡ id_of row → Q (row ∷ rows)) → (id_of r < id_of row → Q (r ∷ with_row rows row)) → Q (with_row (r ∷ rows) row)
+with_row-cases Q r row rows below at above = elim (cases_order (id_of row) (id_of r)) [
+  | inl e ↦ subst Q (sym (with_row-at r row rows (sym e))) (at (sym e))
+  | inr o ↦ elim o [
+    | inl l ↦ subst Q (sym (with_row-below r row rows l)) (below l)
+    | inr g ↦ subst Q (sym (with_row-above r row rows g)) (above g)
+  ]
+]
 
 abbrev put_by : Ordering → Row → Row → List Row → List (ℕ × Row)
 put_by o r row rows =
@@ -159,7 +170,8 @@ without_row-new (r ∷ rows) id new =
     ap₂ (λ b rs. cond (not b) (r ∷ rs) rs) apart.0 (without_row-new rows id apart.1)
 
 -- the row that was put in is the one that is taken out
-pub without_row-with_row : (rows : List Row) (row : Row) → has_row rows (id_of row) ≡ false → without_row (with_row rows row) (id_of row) ≡ rows
+pub without_row-with_row : (rows : List Row) (row : Row) → has_row rows (id_of row) ≡ false
+    → without_row (with_row rows row) (id_of row) ≡ rows
 without_row-with_row rows row new =
     let h = one_more-with_row rows row new in
     let keeps = λ (r : Row). not (id_of r == id_of row) in
@@ -177,7 +189,7 @@ without_row-none (r ∷ rows) id h =
 abbrev taken_by : Bool → Row → List Row → ℕ → List (ℕ × Row)
 taken_by b r rows id = cond b (by_id rows) ((id_of r, r) ∷ remove_entry (is_at (nat_cmp id)) (by_id rows))
 
-abbrev kept_by : Bool → Row → List Row → ℕ → List Row
+abbrev pub kept_by : Bool → Row → List Row → ℕ → List Row
 kept_by b r rows id = cond (not b) (r ∷ without_row rows id) (without_row rows id)
 
 taken-kept : (b : Bool) (r : Row) (rows : List Row) (id : ℕ) → (b ≡ true → without_row rows id ≡ rows)

@@ -22,7 +22,8 @@ use Rattle.svr_schema.specs.declared.table.Column.{Column}
 use Rattle.svr_schema.specs.declared.table.Table.{Table}
 use Rattle.svr_schema.specs.Lookups.{is_kind}
 use Rattle.svr_schema.specs.Lawful.{IsTable, begins_with_id}
-use Rattle.svr_rows.specs.Rows.{HasId, IsRowOf, bad_column, begins_negative, cell_bytes, cell_in, fits, kinds_of, long_text_from, misfit_from, no_rows, row_bytes}
+use Rattle.svr_rows.specs.Rows.{HasId, IsRowOf, bad_column, begins_negative, cell_bytes, cell_in, fits, kinds_of, long_text_from}
+use Rattle.svr_rows.specs.Rows.{misfit_from, no_rows, row_bytes}
 use Rattle.svr_rows.specs.Kept.{IsColumns, IsLawfulRow, IsTableRows}
 
 -- ---- the first misfit, by place

@@ -48,7 +48,8 @@ with_rows-same (t ∷ tables) (suc place) = ap (λ ts. t ∷ ts) (with_rows-same
 
 -- to take out a row that was just inserted gives the tables before it
 pub remove-inserted : (tables : List TableRows) (place : ℕ) (row : Row) → refusal_of tables (Insert place row) ≡ None
-    → with_rows (changed tables (Insert place row)) place (without_row (rows_in (changed tables (Insert place row)) place) (id_of row)) ≡ tables
+    → with_rows (changed tables (Insert place row)) place (without_row (rows_in (changed tables (Insert place row)) place) (id_of row))
+    ≡ tables
 remove-inserted tables place row h =
     let rows = rows_in tables place in
     let put = CanPut-insert tables place row h in

@@ -1,7 +1,8 @@
 pub mod ById
 pub mod Fits
 pub mod Tested
-pub mod Entries
 pub mod Sums
+pub mod Lawful
+pub mod Entries
 pub mod Laws
 pub mod Beside

@@ -10,7 +10,8 @@ use Rattle.svr_rows.specs.declared.change.Change.TheVariants.{Insert, Update, De
 use Rattle.svr_rows.specs.declared.change.RowRefusal.{RowRefusal}
 use Rattle.svr_rows.specs.declared.change.RowRefusal.TheVariants.{NoTable, BadRow, TextTooLong, KeyExists, NoRow, TableFull, TextFull}
 use Rattle.svr_rows.specs.Rows.{TableRows, bad_column, has_row, id_of, long_text_from, rows_at, rows_in, text_bytes, with_row}
-use Rattle.svr_rows.specs.Changes.{at_column, changed, new_refusal, or_then, refusal_at, refusal_of, refuse_if, row_refusal, table_of, text_refusal, with_rows}
+use Rattle.svr_rows.specs.Changes.{at_column, changed, new_refusal, or_then, refusal_at, refusal_of, refuse_if, row_refusal, table_of}
+use Rattle.svr_rows.specs.Changes.{text_refusal, with_rows}
 use Rattle.svr_rows.specs.Kept.{CanPut, IsLawfulRow}
 
 pub neither : (first later : Option RowRefusal) → or_then first later ≡ None → (first ≡ None) × (later ≡ None)
@@ -77,11 +78,13 @@ module _ (tables : List TableRows) (place : ℕ) (there : TableRows) (e : slice_
     abbrev pub after_put : List TableRows
     after_put = with_rows tables place (with_row there.rows row)
 
-    pub insert_is : refusal_of tables (Insert place row) ≡ inserts_if (row_refusal there row) (new_refusal there (id_of row)) (text_refusal after_put)
+    pub insert_is : refusal_of tables (Insert place row)
+        ≡ inserts_if (row_refusal there row) (new_refusal there (id_of row)) (text_refusal after_put)
     unfolding refusal_of
     insert_is =
         ap (λ o. refusal_at o tables (Insert place row)) e
-        ∙ ap (λ rows. inserts_if (row_refusal there row) (new_refusal there (id_of row)) (text_refusal (with_rows tables place (with_row rows row))))
+        ∙ ap (λ rows. inserts_if (row_refusal there row) (new_refusal there (id_of row))
+        (text_refusal (with_rows tables place (with_row rows row))))
         same_rows
 
     update_is : refusal_of tables (Update place row)

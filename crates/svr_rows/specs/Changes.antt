@@ -1,6 +1,6 @@
 -- What a change makes of the rows, or why it is refused.
 use Rattle.std.specs.Prelude.{ℕ, ◌+◌, zero, suc, Bool, not, List, [], ◌∷◌, length, map, slice_get}
-use Rattle.std.specs.Prelude.{nat_lt, nat_le, if◌then◌else◌, Option, Some, None, Result, Ok, Err}
+use Rattle.std.specs.Prelude.{nat_lt, nat_le, if◌then◌else◌, Option, Some, None}
 use Rattle.svr_rows.specs.declared.row.Row.{Row}
 use Rattle.svr_rows.specs.declared.change.Change.{Change}
 use Rattle.svr_rows.specs.declared.change.Change.TheVariants.{Insert, Update, Delete}
@@ -60,7 +60,8 @@ refusal_at None tables change = Some NoTable
 refusal_at (Some t) tables (Insert at row) =
     or_then (row_refusal t row) (or_then (new_refusal t (id_of row)) (text_refusal (changed tables (Insert at row))))
 refusal_at (Some t) tables (Update at row) =
-    or_then (row_refusal t row) (or_then (refuse_if (not (has_row t.rows (id_of row))) NoRow) (text_refusal (changed tables (Update at row))))
+    or_then (row_refusal t row)
+    (or_then (refuse_if (not (has_row t.rows (id_of row))) NoRow) (text_refusal (changed tables (Update at row))))
 refusal_at (Some t) tables (Delete at id) = refuse_if (not (has_row t.rows id)) NoRow
 
 abbrev pub table_of : Change → ℕ
@@ -71,14 +72,6 @@ table_of (Delete at id) = at
 -- the first refusal that holds, in the order in which they are tested
 unfoldable pub refusal_of : List TableRows → Change → Option RowRefusal
 refusal_of tables change = refusal_at (slice_get tables (table_of change)) tables change
-
-abbrev pub unless : Option RowRefusal → List TableRows → Result (List TableRows) RowRefusal
-unless None after = Ok after
-unless (Some why) after = Err why
-
--- the rows after a change, or why it is refused
-abbrev pub after : List TableRows → Change → Result (List TableRows) RowRefusal
-after tables change = unless (refusal_of tables change) (changed tables change)
 
 -- ---- a load: the inserts of rows into one table, one after the other
 

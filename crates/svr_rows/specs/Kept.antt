@@ -1,4 +1,4 @@
--- What holds of each table's rows as they are kept.
+-- Words of private clauses: what holds of each table's rows as they are kept.
 use Rattle.std.specs.Prelude.{◌≡◌, ◌≤◌, ◌<◌, ℕ, false, List, ◌∷◌, length, map, slice_get, Option, None, Some}
 use Rattle.std.specs.List.{All}
 use Rattle.std.specs.List.Sorted.{IsStrictlySortedBy}

@@ -1,5 +1,6 @@
--- Inserts of many rows: what is remembered of those that were accepted, and how the next row is tested beside them.
-use Rattle.std.specs.Prelude.{◌≡◌, ◌≤◌, ℕ, ◌+◌, true, false, if◌then◌else◌, ◌||◌, List, length, slice_get, nat_lt, nat_le, Option, None, Some}
+-- Words of private clauses: what is remembered of the rows of a load that were accepted, and how the next is tested beside them.
+use Rattle.std.specs.Prelude.{◌≡◌, ◌≤◌, ℕ, ◌+◌, true, false, if◌then◌else◌, ◌||◌, List, length, slice_get, nat_lt, nat_le}
+use Rattle.std.specs.Prelude.{Option, None, Some}
 use Rattle.std.specs.BTreeSet.{btree_set_len, contains}
 use Rattle.std.specs.BTreeMap.{is_at}
 use Rattle.std.specs.Ordering.{nat_cmp}

@@ -1,5 +1,5 @@
 //! Where cells fit no columns, or are too long.
-ghost use Rattle.std.specs.Prelude.{◌≡◌, ◌≤◌, ◌<◌, ◌==◌, if◌then◌else◌, length, map, min, nat_lt, zip, not, position, Some, None, IfSome};
+ghost use Rattle.std.specs.Prelude.{◌≡◌, ◌≤◌, ◌<◌, ◌==◌, if◌then◌else◌, length, map, min, nat_lt, zip, position, Some, None, IfSome};
 ghost use Rattle.std.specs.Option.{option_or};
 ghost use Rattle.svr_rows.specs.Rows.{bad_column, begins_negative, cell_bytes, cell_in, fits, long_text_from};
 

@@ -1,8 +1,7 @@
 //! The rows of one table.
-ghost use Rattle.std.specs.Prelude.{◌≡◌, ◌≤◌, ◌<◌, ℕ, [], length, map, false, IfOk, IfErr, OnOk, OnErr, Some, None, option_map};
+ghost use Rattle.std.specs.Prelude.{◌≡◌, ◌≤◌, ◌<◌, ℕ, length, map, false, IfOk, IfErr, OnOk, OnErr, Some, None, option_map};
 ghost use Rattle.svr_rows.specs.Rows.{HasId, TableRows, has_row, id_of, kinds_of, no_rows, row_at, row_bytes, with_row, without_row};
 ghost use Rattle.svr_rows.specs.Changes.{new_refusal, row_refusal, with_rows_of};
-ghost use Rattle.svr_rows.specs.Kept.{IsTableRows};
 ghost use Rattle.svr_schema.specs.Lawful.{IsTable};
 
 use crate::change::RowRefusal;
@@ -115,7 +114,6 @@ impl KeptTable {
         requires room { has_row self.old.rows (id_of row) ≡ false → length self.old.rows < 262144 }
         ensures changed { OnOk result (self.new ≡ with_rows_of self.old (with_row self.old.rows row)) }
         ensures before { IfOk result (λ before. before ≡ row_at self.old.rows (id_of row)) }
-        ensures lawful { OnOk result (IsTableRows self.new) }
         ensures err { OnErr result (self.new ≡ self.old) }
     {
         let before = self.rows.insert(row.id(), row)?;
@@ -125,7 +123,6 @@ impl KeptTable {
     pub fn remove(&mut self, id: DocId) -> Option<Row>
         ensures changed { self.new ≡ with_rows_of self.old (without_row self.old.rows id) }
         ensures before { result ≡ row_at self.old.rows id }
-        ensures lawful { IsTableRows self.new }
     {
         self.rows.remove(&id)
     }

@@ -1,9 +1,7 @@
 //! The inserts of many rows, tested before any is made.
 ghost use Rattle.std.specs.Prelude.{◌≡◌, ◌≤◌, ◌+◌, ℕ, length, None, Some, IfErr, OnOk};
-ghost use Rattle.std.specs.List.{All};
-ghost use Rattle.svr_rows.specs.Rows.{HasId, row_bytes, id_of};
+ghost use Rattle.svr_rows.specs.Rows.{HasId, row_bytes};
 ghost use Rattle.svr_rows.specs.Changes.{load_refusal};
-ghost use Rattle.svr_rows.specs.Kept.{IsTableRows};
 ghost use Rattle.svr_rows.specs.Load.{Adds, refusal_of_new};
 
 use crate::change::RowRefusal;
@@ -73,8 +71,6 @@ impl Tables {
     /// copied: each row costs a search in its table and one in the ids of the rows before it.
     pub fn check_all(&self, alloc: Global, table: u8, rows: &[Row]) -> Result<(), LoadRefusal>
         requires { length rows.now ≤ 8388608 }
-        // Each table has its limits, and its rows fit its columns and stand in ascending order of id.
-        ensures lawful { All IsTableRows self.now }
         ensures ok { OnOk result (load_refusal self.now table rows.now ≡ None) }
         ensures refused { IfErr result (λ why. (number : ℕ) → (reason : RowRefusal) → why ≡ LoadRefusal.At number reason
             → load_refusal self.now table rows.now ≡ Some (number, reason)) }

@@ -1,9 +1,8 @@
-ghost use Rattle.std.specs.List.{All};
-ghost use Rattle.std.specs.Prelude.{◌≡◌, ◌<◌, ◌≤◌, ◌+◌, ℕ, ◌^◌, [], false, true, length, map, slice_get, IfOk, IfErr, IfSome, OnOk, OnErr, Some, None, option_map};
+ghost use Rattle.std.specs.Prelude.{◌≡◌, ◌<◌, ◌≤◌, ◌+◌, ℕ, [], length, map, slice_get, IfOk, IfErr, IfSome, OnOk, OnErr, Some, None, option_map};
 ghost use Rattle.svr_schema.specs.Lawful.{IsSchema};
 ghost use Rattle.svr_rows.specs.Rows.{HasId, IsRowOf, id_of, kinds_in, rows_in, row_at, text_bytes, no_rows, with_row, without_row};
 ghost use Rattle.svr_rows.specs.Changes.{changed, refusal_of, row_before, with_rows};
-ghost use Rattle.svr_rows.specs.Kept.{CanPut, IsTableRows};
+ghost use Rattle.svr_rows.specs.Kept.{CanPut};
 ghost use Rattle.svr_rows.specs.Load.{IsAhead, refusal_beside};
 
 use crate::change::{Change, RowRefusal};
@@ -62,7 +61,6 @@ impl Tables {
     }
 
     fn table(&self, table: u8) -> Result<&KeptTable, RowRefusal>
-        ensures lawful { All IsTableRows self.now }
         ensures ok { IfOk result (λ kept. slice_get self.now table ≡ Some kept.now) }
         ensures refused { IfErr result (λ why. (why ≡ RowRefusal.NoTable) × (slice_get self.now table ≡ None)) }
     {
@@ -71,8 +69,6 @@ impl Tables {
 
     /// Tests a change: the first refusal that holds.
     pub fn check(&self, change: &Change) -> Result<(), RowRefusal>
-        // Each table has its limits, and its rows fit its columns and stand in ascending order of id.
-        ensures lawful { All IsTableRows self.now }
         ensures ok { OnOk result (refusal_of self.now change.now ≡ None) }
         ensures refused { IfErr result (λ why. refusal_of self.now change.now ≡ Some why) }
     {
@@ -84,7 +80,6 @@ impl Tables {
     }
 
     fn check_insert(&self, table: u8, row: &Row) -> Result<(), RowRefusal>
-        ensures lawful { All IsTableRows self.now }
         ensures ok { OnOk result (refusal_of self.now (Change.Insert table row.now) ≡ None) }
         ensures refused { IfErr result (λ why. refusal_of self.now (Change.Insert table row.now) ≡ Some why) }
     {
@@ -96,8 +91,7 @@ impl Tables {
 
     /// What is ahead of the first row that is tested.
     pub(crate) fn none_ahead(&self, alloc: Global) -> Ahead
-        ensures lawful { All IsTableRows self.now }
-        ensures none { (place : ℕ) → IsAhead self.now place [] result }
+        ensures { (place : ℕ) → IsAhead self.now place [] result }
     {
         Ahead {
             ids: BTreeSet::new(alloc),
@@ -119,7 +113,6 @@ impl Tables {
     }
 
     fn check_update(&self, table: u8, row: &Row) -> Result<(), RowRefusal>
-        ensures lawful { All IsTableRows self.now }
         ensures ok { OnOk result (refusal_of self.now (Change.Update table row.now) ≡ None) }
         ensures refused { IfErr result (λ why. refusal_of self.now (Change.Update table row.now) ≡ Some why) }
     {
@@ -130,7 +123,6 @@ impl Tables {
     }
 
     fn check_delete(&self, table: u8, id: DocId) -> Result<(), RowRefusal>
-        ensures lawful { All IsTableRows self.now }
         ensures ok { OnOk result (refusal_of self.now (Change.Delete table id) ≡ None) }
         ensures refused { IfErr result (λ why. refusal_of self.now (Change.Delete table id) ≡ Some why) }
     {
@@ -148,8 +140,6 @@ impl Tables {
         ensures changed { OnOk result (self.new ≡ changed self.old change) }
         ensures before { IfOk result (λ before. before ≡ row_before self.old change) }
         ensures err { OnErr result (self.new ≡ self.old) }
-        ensures as_many { length self.new ≡ length self.old }
-        ensures lawful { All IsTableRows self.new }
     {
         match change {
             Change::Insert { table, row } | Change::Update { table, row } => self.put(table, row),
@@ -162,8 +152,6 @@ impl Tables {
         ensures changed { OnOk result (self.new ≡ with_rows self.old table (with_row (rows_in self.old table) row)) }
         ensures before { IfOk result (λ before. before ≡ row_at (rows_in self.old table) (id_of row)) }
         ensures err { OnErr result (self.new ≡ self.old) }
-        ensures as_many { length self.new ≡ length self.old }
-        ensures lawful { All IsTableRows self.new }
     {
         let bytes = self.bytes + row.text_bytes();
         let before = self.tables[table as usize].put(row)?;
@@ -176,8 +164,6 @@ impl Tables {
         requires { table < length self.old }
         ensures changed { self.new ≡ with_rows self.old table (without_row (rows_in self.old table) id) }
         ensures before { result ≡ row_at (rows_in self.old table) id }
-        ensures as_many { length self.new ≡ length self.old }
-        ensures lawful { All IsTableRows self.new }
     {
         let before = self.tables[table as usize].remove(id);
         self.bytes -= bytes_of(&before);

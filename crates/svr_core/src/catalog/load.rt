@@ -1,12 +1,12 @@
 //! All rows of a block, or none.
 ghost use Rattle.std.specs.List.{All};
-ghost use Rattle.std.specs.Prelude.{◌≡◌, ◌<◌, ◌≤◌, map, length, vec_len, None, Ok, IfOk, IfErr, OnOk, OnErr};
-ghost use Rattle.svr_csvload.specs.Blocks.{rows_in_block};
+ghost use Rattle.std.specs.Prelude.{◌≡◌, ◌<◌, ◌≤◌, map, length, vec_len, None, Some, Ok, IfOk, IfErr, OnOk, OnErr};
+ghost use Rattle.svr_csvload.specs.Blocks.{AreRows, rows_in_block};
 ghost use Rattle.svr_rows.specs.Changes.{inserted, load_refusal};
 ghost use Rattle.svr_rows.specs.Rows.{HasId, IsRowOf, id_of, kinds_in, kinds_of};
 ghost use Rattle.svr_schema.specs.Lawful.{IsTable};
-ghost use Rattle.svr_core.specs.Outcomes.{changes_to, rows_outcome};
-ghost use Rattle.svr_core.specs.Steps.{IsBadRecord, MayRefuse, taken_out, without_id};
+ghost use Rattle.svr_core.specs.Outcomes.{load_outcome, rows_outcome};
+ghost use Rattle.svr_core.specs.Steps.{IsBadRecord, Serves, taken_out, without_id};
 
 use crate::catalog::{Catalog, Done};
 use crate::effect::take_out;
@@ -20,33 +20,28 @@ use svr_rows::{Change, Row};
 use svr_schema::Table;
 
 impl Catalog {
-    /// The rows of a block, under the columns of a table.
-    pub(super) fn rows(
-        &self,
+    /// Inserts the rows of a block, all or none.
+    pub fn load(
+        &mut self,
         alloc: Global,
-        table: u8,
+        name: &str,
         header: bool,
         block: &[u8],
-    ) -> Result<Vec<Row>, Refusal>
-        requires there { table < length self.now.schema.tables }
-        requires few { length block.now ≤ 8388608 }
-        ensures rows { IfOk result (λ rows. rows_in_block (kinds_in self.now.tables table) header block.now ≡ Ok rows.items) }
-        ensures fit { IfOk result (λ rows. All (IsRowOf (kinds_in self.now.tables table)) rows.items) }
-        ensures few { IfOk result (λ rows. vec_len rows ≤ 8388608) }
-        ensures refused { IfErr result (IsBadRecord (rows_in_block (kinds_in self.now.tables table) header block.now)) }
+    ) -> Result<Done, Refusal>
+        requires { length block.now ≤ 8388608 }
+        ensures { Serves (load_outcome self.old name.now header block.now) (Some self.old) (Some self.new) result }
     {
-        block_rows(alloc, self.declared(table), header, block)
+        let table = self.table(name)?;
+        let rows = block_rows(alloc, self.declared(table), header, block)?;
+        self.insert_rows(alloc, table, rows)
     }
 
-    /// Adds all rows to a table, or none.
-    pub(super) fn load(&mut self, alloc: Global, table: u8, rows: Vec<Row>) -> Result<Done, Refusal>
+    /// Inserts all rows into a table, or none.
+    fn insert_rows(&mut self, alloc: Global, table: u8, rows: Vec<Row>) -> Result<Done, Refusal>
         requires there { table < length self.old.schema.tables }
         requires few { vec_len rows ≤ 8388608 }
         requires fit { All (IsRowOf (kinds_in self.old.tables table)) rows.items }
-        ensures done { IfOk result (λ done. done ≡ Done.Changed) }
-        ensures changed { OnOk result (rows_outcome self.old table (Ok rows.items) ≡ changes_to self.new) }
-        ensures refused { IfErr result (MayRefuse (rows_outcome self.old table (Ok rows.items))) }
-        ensures err { OnErr result (self.new ≡ self.old) }
+        ensures { Serves (rows_outcome self.old table (Ok rows.items)) (Some self.old) (Some self.new) result }
     {
         self.tables
             .check_all(alloc, table, rows.as_slice())
@@ -112,9 +107,8 @@ impl Catalog {
 fn block_rows(alloc: Global, table: &Table, header: bool, block: &[u8]) -> Result<Vec<Row>, Refusal>
     requires lawful { IsTable table.now }
     requires few { length block.now ≤ 8388608 }
-    ensures rows { IfOk result (λ rows. rows_in_block (kinds_of table.now) header block.now ≡ Ok rows.items) }
-    ensures fit { IfOk result (λ rows. All (IsRowOf (kinds_of table.now)) rows.items) }
-    ensures few { IfOk result (λ rows. vec_len rows ≤ 8388608) }
+    ensures rows { IfOk result (λ rows.
+        AreRows (kinds_of table.now) (rows_in_block (kinds_of table.now) header block.now) rows.items) }
     ensures refused { IfErr result (IsBadRecord (rows_in_block (kinds_of table.now) header block.now)) }
 {
     let rows = read_block(alloc, table, block, header).map_err(refused_block)?;

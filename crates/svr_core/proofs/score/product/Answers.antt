@@ -4,7 +4,8 @@ use Rattle.svr_core.proofs.Products.{part-bounds}
 use Rattle.svr_core.proofs.score.product.Goals as goal
 
 abbrev computed : ℤ → ℤ → ℤ
-computed weight value = cast_signed w128 (cast_unsigned w128 (cast_signed w128 (cast_unsigned w128 weight) *ℤ cast_signed w128 (cast_unsigned w128 value)))
+computed weight value =
+    cast_signed w128 (cast_unsigned w128 (cast_signed w128 (cast_unsigned w128 weight) *ℤ cast_signed w128 (cast_unsigned w128 value)))
 
 is_product : (c : goal.After-from-2) → computed c.from.result c.from-2.result ≡ c.args.weight *ℤ c.args.value
 is_product c = search rules

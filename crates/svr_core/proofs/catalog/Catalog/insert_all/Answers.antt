@@ -62,7 +62,8 @@ loop-row-preserved c =
     let inv = c.loop-row.invariant in
     let all = next_row inv.0 c.pop.new.self.items c.args.rows.items c.in-Some.row
     (ap (λ xs. inv.0 ++ reverse xs) (sym c.in-Some.ensures.items) ∙ inv.1) in
-    let made : c.make.new.self ≡ record { schema = c.loop-row.self.schema; tables = changed c.loop-row.self.tables (Insert c.args.table c.in-Some.row) }
+    let made : c.make.new.self
+    ≡ record { schema = c.loop-row.self.schema; tables = changed c.loop-row.self.tables (Insert c.args.table c.in-Some.row) }
     = search rules in (
       inv.0 ++ c.in-Some.row ∷ [],
       append_assoc inv.0 (c.in-Some.row ∷ []) (reverse c.pop.new.self.items) ∙ all,

@@ -1,8 +1,6 @@
 use Rattle.std.proofs.Common.{◌<◌, length, sym, subst}
 use Rattle.svr_core.specs.Documents.{IsCatalog}
 use Rattle.svr_core.specs.Steps.{without_id}
-use Rattle.std.specs.List.{All}
-use Rattle.svr_rows.specs.Kept.{IsTableRows}
 use Rattle.svr_core.proofs.Followed.{IsCatalog-without_id}
 use Rattle.svr_core.proofs.catalog.Catalog.take_out.Goals as goal
 
@@ -14,5 +12,4 @@ invariant_of-self c =
     let within = subst (λ s. c.args.table < length s.tables) (sym c.self.view_is) c.requires in
     subst (λ ts. IsCatalog schema ts c.take_out.new.documents.entries) (sym out.tables)
     (subst (IsCatalog schema (without_id tables c.args.table c.args.id)) (sym out.documents)
-    (IsCatalog-without_id schema tables c.self.inside.documents.entries c.self.invariant c.args.table c.args.id within
-    (subst (All IsTableRows) out.tables out.lawful)))
+    (IsCatalog-without_id schema tables c.self.inside.documents.entries c.self.invariant c.args.table c.args.id within))

@@ -1,14 +1,12 @@
-use Rattle.std.proofs.Common.{◌≡◌, ◌<◌, false, is_some, length, subst, ap, sym, ◌∙◌, arith}
+use Rattle.std.proofs.Common.{◌≡◌, ◌<◌, false, length, subst, ap, sym, ◌∙◌}
 use Rattle.std.specs.Ordering.{nat_cmp}
 use Rattle.std.specs.BTreeMap.{insert_entry}
-use Rattle.std.proofs.lemmas.List.{length-map}
 use Rattle.svr_rows.specs.Rows.{TableRows, has_row, id_of, row_at, with_row}
 use Rattle.svr_rows.specs.Changes.{row_refusal, with_rows_of}
 use Rattle.svr_rows.specs.Kept.{kept_rows}
-use Rattle.svr_rows.proofs.ById.{is_some-row_at}
 use Rattle.svr_rows.proofs.Fits.{HasId-from_fits}
 use Rattle.svr_rows.proofs.Tested.{IsLawfulRow-from_none}
-use Rattle.svr_rows.proofs.Entries.{IsKept-insert_entry, length-put, lookup-kept, values_of-insert_entry}
+use Rattle.svr_rows.proofs.Entries.{IsKept-insert_entry, lookup-kept, values_of-insert_entry}
 use Rattle.svr_rows.proofs.kept.KeptTable.put.Goals as goal
 
 pub id-requires : goal.id-requires
@@ -27,15 +25,9 @@ invariant_of-self-2 c =
     let t = kept_rows c.self.inside.kinds.items c.self.inside.rows.entries in
     let lawful = IsLawfulRow-from_none t c.args.row (ap (λ t. row_refusal t c.args.row) c.self.view_is ∙ c.requires.fits) in
     let put = c.in_ok-before.ensures.entries ∙ ap (λ id. insert_entry nat_cmp c.self.inside.rows.entries id c.args.row) c.id.ensures in
-    let before = c.in_ok-before.ensures.old ∙ lookup-kept t.kinds c.self.inside.rows.entries c.self.invariant c.id.result in
-    let there : is_some c.in_ok-before.before ≡ has_row t.rows (id_of c.args.row) =
-    ap is_some before ∙ is_some-row_at t.rows c.id.result ∙ ap (has_row t.rows) c.id.ensures in
     let room : has_row t.rows (id_of c.args.row) ≡ false → length t.rows < 262144 =
     subst (λ (t : TableRows). has_row t.rows (id_of c.args.row) ≡ false → length t.rows < 262144) (sym c.self.view_is) c.requires.room in
-    let few = length-put (is_some c.in_ok-before.before) (length t.rows) c.self.invariant.rows.few (λ e. room (sym there ∙ e)) in
-    IsKept-insert_entry t.kinds c.self.inside.rows.entries c.self.invariant c.insert.new.self.entries c.args.row put lawful
-    c.insert.ensures.ordered
-    (omega (arith, c.in_ok-before.ensures.len, length-map c.self.inside.rows.entries (λ e. e.1), few))
+    IsKept-insert_entry t.kinds c.self.inside.rows.entries c.self.invariant c.insert.new.self.entries c.args.row put lawful room
 
 pub returns-clause-changed : goal.returns-clause-changed
 returns-clause-changed c =
@@ -44,6 +36,3 @@ returns-clause-changed c =
     ∙ ap (with_rows_of (kept_rows c.self.inside.kinds.items c.self.inside.rows.entries))
     (values_of-insert_entry c.self.inside.kinds.items c.self.inside.rows.entries c.self.invariant c.args.row)
     ∙ ap (λ t. with_rows_of t (with_row t.rows c.args.row)) c.self.view_is
-
-pub returns-clause-lawful : goal.returns-clause-lawful
-returns-clause-lawful c = (invariant_of-self-2 c).rows

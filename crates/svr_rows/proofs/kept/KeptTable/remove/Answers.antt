@@ -1,5 +1,4 @@
-use Rattle.std.proofs.Common.{ap, ◌∙◌, arith}
-use Rattle.std.proofs.lemmas.List.{length-map}
+use Rattle.std.proofs.Common.{ap, ◌∙◌}
 use Rattle.svr_rows.specs.Rows.{row_at, without_row}
 use Rattle.svr_rows.specs.Changes.{with_rows_of}
 use Rattle.svr_rows.specs.Kept.{kept_rows}
@@ -9,8 +8,7 @@ use Rattle.svr_rows.proofs.kept.KeptTable.remove.Goals as goal
 pub invariant_of-self : goal.invariant_of-self
 invariant_of-self c =
     IsKept-remove_entry c.self.inside.kinds.items c.self.inside.rows.entries c.self.invariant c.remove.new.self.entries c.args.id
-    c.remove.ensures.entries c.remove.ensures.ordered
-    (omega (arith, c.remove.ensures.len, length-map c.self.inside.rows.entries (λ e. e.1), c.self.invariant.rows.few))
+    c.remove.ensures.entries
 
 pub returns-clause-changed : goal.returns-clause-changed
 returns-clause-changed c =
@@ -23,6 +21,3 @@ pub returns-clause-before : goal.returns-clause-before
 returns-clause-before c =
     c.remove.ensures.value ∙ lookup-kept c.self.inside.kinds.items c.self.inside.rows.entries c.self.invariant c.args.id
     ∙ ap (λ t. row_at t.rows c.args.id) c.self.view_is
-
-pub returns-clause-lawful : goal.returns-clause-lawful
-returns-clause-lawful c = (invariant_of-self c).rows

@@ -8,7 +8,7 @@ use Rattle.svr_rows.proofs.Beside.{IsAhead-more, load_refusal-taken}
 use Rattle.svr_rows.proofs.tables.Tables.check_all.Goals as goal
 
 pub loop-index-init : goal.loop-index-init
-loop-index-init c = c.none_ahead-ahead.ensures.none c.args.table
+loop-index-init c = c.none_ahead-ahead.ensures c.args.table
 
 pub loop-index-preserved : goal.loop-index-preserved
 loop-index-preserved c =

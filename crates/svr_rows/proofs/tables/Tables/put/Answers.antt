@@ -1,12 +1,12 @@
 use Rattle.std.proofs.Common.{◌≡◌, ◌<◌, ◌≤◌, ℕ, List, false, get_or, length, set, slice_get, Some, sym, ap, ◌∙◌, subst, arith}
 use Rattle.std.specs.List.{All}
-use Rattle.std.proofs.lemmas.List.Elements.{All-set}
 use Rattle.std.proofs.lemmas.Option.{get_or_from_slice_get, slice_get_within}
 use Rattle.svr_rows.specs.declared.row.Row.{Row}
 use Rattle.svr_rows.specs.Rows.{TableRows, has_row, id_of, row_at, row_bytes, rows_at, rows_in, text_bytes, with_row}
 use Rattle.svr_rows.specs.Changes.{row_refusal, with_rows, with_rows_of}
 use Rattle.svr_rows.specs.Kept.{CanPut, bytes_at, IsTableRows}
 use Rattle.svr_rows.proofs.Fits.{row_bytes-lawful}
+use Rattle.svr_rows.proofs.Lawful.{IsTableRows-put, all-with_rows}
 use Rattle.svr_rows.proofs.Tested.{IsLawfulRow-from_none}
 use Rattle.svr_rows.proofs.Sums.{bytes_at-counted, bytes_at-few, set-with_rows, CountsTexts-put, IsTableRows-at}
 use Rattle.svr_rows.proofs.tables.Tables.put.Goals as goal
@@ -25,6 +25,11 @@ module _ {items tables : List TableRows} {place : ℕ} {row : Row} (is : items �
 
   short : All IsTableRows items → row_bytes row ≤ 524288
   short all = row_bytes-lawful can.table.kinds row (lawful all).columns (IsLawfulRow-from_none can.table row can.fits)
+
+  all-after : All IsTableRows items → All IsTableRows (with_rows items place (with_row can.table.rows row))
+  all-after all =
+      all-with_rows items place can.table (with_row can.table.rows row) all stands
+      (IsTableRows-put can.table row (lawful all) (IsLawfulRow-from_none can.table row can.fits) can.room)
 
 -- the row that stood there
 before : (c : In_ok-before) → c.in_ok-before.before ≡ row_at c.requires.table.rows (id_of c.args.row)
@@ -83,8 +88,7 @@ invariant_of-self-2 c =
     let k = (goal.at.invariant_of-self-2 c).In_ok-before in
     let gone = c.bytes_of.ensures ∙ ap bytes_at (before k) in (
       rw (c.text_bytes.ensures, gone, now k) counts,
-      All-set IsTableRows c.self.inside.tables.items c.args.table c.put.new.self c.in_ok-before.ensures.lawful
-          c.self.invariant.1,
+      subst (All IsTableRows) (sym (now k)) (all-after c.self.view_is c.requires c.self.invariant.1),
     )
 
 pub returns-clause-changed : goal.returns-clause-changed

@@ -1,9 +1,10 @@
 use Rattle.std.proofs.Common.{◌≡◌, ◌<◌, length, set, slice_get, Some, refl, sym, ap, ◌∙◌, subst, arith}
-use Rattle.std.proofs.lemmas.List.Elements.{All-set}
+use Rattle.std.specs.List.{All}
 use Rattle.std.proofs.lemmas.Option.{slice_get_read}
 use Rattle.svr_rows.specs.Rows.{row_at, rows_at, rows_in, without_row}
 use Rattle.svr_rows.specs.Changes.{with_rows}
 use Rattle.svr_rows.specs.Kept.{bytes_at, IsTableRows}
+use Rattle.svr_rows.proofs.Lawful.{IsTableRows-taken, all-with_rows}
 use Rattle.svr_rows.proofs.Sums.{bytes_at-counted, bytes_at-few, set-with_rows, CountsTexts-remove, IsTableRows-at}
 use Rattle.svr_rows.proofs.tables.Tables.remove.Goals as goal
 use Rattle.svr_rows.proofs.tables.Tables.remove.Goals.{After-remove-before}
@@ -42,8 +43,8 @@ invariant_of-self c =
     let k = (goal.at.invariant_of-self c).After-remove-before in
     let gone = c.bytes_of.ensures ∙ ap bytes_at c.remove-before.ensures.before in (
       rw (gone, now k) (CountsTexts-remove _ _ _ (stands k) (lawful k) c.args.id c.self.inside.bytes c.self.invariant.0),
-      All-set IsTableRows c.self.inside.tables.items c.args.table c.remove-before.new.self c.remove-before.ensures.lawful
-          c.self.invariant.1,
+      subst (All IsTableRows) (sym (now k))
+          (all-with_rows _ _ _ _ c.self.invariant.1 (stands k) (IsTableRows-taken c.index_mut.result.now c.args.id (lawful k))),
     )
 
 pub returns-clause-changed : goal.returns-clause-changed

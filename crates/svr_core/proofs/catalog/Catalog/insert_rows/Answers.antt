@@ -2,7 +2,7 @@ use Rattle.std.proofs.Common.{◌<◌, length, subst, sym, arith}
 use Rattle.std.specs.List.{All}
 use Rattle.svr_rows.specs.Rows.{IsRowOf, kinds_in}
 use Rattle.svr_core.proofs.Loaded.{HasId-all, as_many}
-use Rattle.svr_core.proofs.catalog.Catalog.load.Goals as goal
+use Rattle.svr_core.proofs.catalog.Catalog.insert_rows.Goals as goal
 
 pub insert_all-requires-clause-ids : goal.insert_all-requires-clause-ids
 insert_all-requires-clause-ids c =
