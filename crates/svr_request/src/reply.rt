@@ -3,7 +3,7 @@ use svr_edge::Items;
 use svr_num::Hit;
 
 /// The answer to a search.
-#[derive(Debug, Drop)]
+#[derive(Drop)]
 pub struct Answer {
     /// The hits, best first.
     pub hits: Items<Hit>,
@@ -25,7 +25,7 @@ pub enum Fault {
 }
 
 /// What is answered to a request.
-#[derive(Debug, Drop)]
+#[derive(Drop)]
 pub enum Reply {
     /// The number of the change, from 1.
     Accepted(u64),

@@ -8,7 +8,7 @@ use svr_rows::Given;
 pub const HITS_BY_DEFAULT: i128 = 10;
 
 /// What a line holds.
-#[derive(Debug, Drop)]
+#[derive(Drop)]
 pub struct Asked {
     /// How many bytes behind the line are its block, if it has one. It has one also where its request is refused.
     pub block: Option<u64>,
@@ -17,7 +17,7 @@ pub struct Asked {
 }
 
 /// What a line asks for. Tables go by their names.
-#[derive(Debug, Drop)]
+#[derive(Drop)]
 pub enum Request {
     /// To take a value as the schema.
     Schema(Value),
