@@ -1,0 +1,14 @@
+//! What no session shows of the crates below requests: sources and sinks in memory call by call, texts and lists, lines of
+//! an input of which few bytes may be taken, and exact numbers at their ends.
+#![tactic(auto)]
+
+#[cfg(test)]
+mod lines;
+#[cfg(test)]
+mod numbers;
+#[cfg(test)]
+mod sinks;
+#[cfg(test)]
+mod sources;
+#[cfg(test)]
+mod types;
