@@ -1,0 +1,15 @@
+use Rattle.std.proofs.Common.{◌≡◌, ◌-◌, ◌∙◌, ap, length, rules, slice_get, sym, unwrap_or}
+use Rattle.std.specs.Int.{w64}
+use Rattle.std.proofs.lemmas.Int.{to_z-of_z}
+use Rattle.svr_num.specs.Aggregates.{aggregate_of}
+use Rattle.svr_num.specs.declared.aggregate.Aggregate.TheVariants as how
+use Rattle.svr_groups.proofs.Folds.{aggregate_of-max}
+use Rattle.svr_groups.proofs.group.Group.greatest.Goals as goal
+
+pub returns : goal.returns
+returns c =
+    let items = c.self.inside.values.items in
+    let is : c.unwrap_or.result ≡ unwrap_or (slice_get items (length items - 1)) c.args.empty = search rules in
+    to_z-of_z w64 c.unwrap_or.result (record { sfits = c.unwrap_or.type_inv }) ∙ is
+    ∙ sym (aggregate_of-max c.args.empty items c.self.invariant.ordered)
+    ∙ ap (aggregate_of how.Max c.args.empty) c.self.view_is
