@@ -3,7 +3,7 @@ use Rattle.std.proofs.Common.{◌≡◌, ◌+◌, ℤ, List, [], ◌∷◌, ◌+
 use Rattle.std.specs.Prelude.{int_lt}
 use Rattle.std.specs.Ordering.{int_eq}
 use Rattle.std.proofs.lemmas.Int.{ints}
-use Rattle.svr_groups.specs.Values.{with_value, without_value, ascending}
+use Rattle.svr_groups.specs.Values.{with_value, without_value, ascending_values}
 
 -- ---- less and equal
 
@@ -98,22 +98,22 @@ with_value-comm u v (x ∷ xs) = comm-at u v x xs (int_lt x u) (int_lt x v) refl
 -- ---- values in their order
 
 -- a value anywhere among values
-pub ascending-insert : (xs ys : List ℤ) (v : ℤ) → ascending (xs ++ v ∷ ys) ≡ with_value v (ascending (xs ++ ys))
-unfolding ascending
-ascending-insert [] ys v = refl
-ascending-insert (x ∷ xs) ys v = ap (with_value x) (ascending-insert xs ys v) ∙ with_value-comm x v (ascending (xs ++ ys))
+pub ascending_values-insert : (xs ys : List ℤ) (v : ℤ) → ascending_values (xs ++ v ∷ ys) ≡ with_value v (ascending_values (xs ++ ys))
+unfolding ascending_values
+ascending_values-insert [] ys v = refl
+ascending_values-insert (x ∷ xs) ys v = ap (with_value x) (ascending_values-insert xs ys v) ∙ with_value-comm x v (ascending_values (xs ++ ys))
 
-ascending-with-at : (v x : ℤ) (xs : List ℤ) (b : Bool) → int_lt x v ≡ b → ascending (with_value v xs) ≡ with_value v (ascending xs)
-    → ascending (with_value v (x ∷ xs)) ≡ with_value v (ascending (x ∷ xs))
-unfolding ascending
-ascending-with-at v x xs true h same =
-    ap ascending (with_value-less v x xs h) ∙ ap (with_value x) same ∙ with_value-comm x v (ascending xs)
-ascending-with-at v x xs false h same = ap ascending (with_value-here v x xs h)
+ascending_values-with-at : (v x : ℤ) (xs : List ℤ) (b : Bool) → int_lt x v ≡ b → ascending_values (with_value v xs) ≡ with_value v (ascending_values xs)
+    → ascending_values (with_value v (x ∷ xs)) ≡ with_value v (ascending_values (x ∷ xs))
+unfolding ascending_values
+ascending_values-with-at v x xs true h same =
+    ap ascending_values (with_value-less v x xs h) ∙ ap (with_value x) same ∙ with_value-comm x v (ascending_values xs)
+ascending_values-with-at v x xs false h same = ap ascending_values (with_value-here v x xs h)
 
-pub ascending-with_value : (v : ℤ) (xs : List ℤ) → ascending (with_value v xs) ≡ with_value v (ascending xs)
-unfolding with_value ascending
-ascending-with_value v [] = refl
-ascending-with_value v (x ∷ xs) = ascending-with-at v x xs (int_lt x v) refl (ascending-with_value v xs)
+pub ascending_values-with_value : (v : ℤ) (xs : List ℤ) → ascending_values (with_value v xs) ≡ with_value v (ascending_values xs)
+unfolding with_value ascending_values
+ascending_values-with_value v [] = refl
+ascending_values-with_value v (x ∷ xs) = ascending_values-with-at v x xs (int_lt x v) refl (ascending_values-with_value v xs)
 
 length-with-at : (v x : ℤ) (xs : List ℤ) (b : Bool) → int_lt x v ≡ b → length (with_value v xs) ≡ length xs + 1
     → length (with_value v (x ∷ xs)) ≡ length (x ∷ xs) + 1
@@ -125,7 +125,7 @@ unfolding with_value
 length-with_value v [] = omega arith
 length-with_value v (x ∷ xs) = length-with-at v x xs (int_lt x v) refl (length-with_value v xs)
 
-pub length-ascending : (xs : List ℤ) → length (ascending xs) ≡ length xs
-unfolding ascending
-length-ascending [] = refl
-length-ascending (x ∷ xs) = length-with_value x (ascending xs) ∙ omega (arith, length-ascending xs)
+pub length-ascending_values : (xs : List ℤ) → length (ascending_values xs) ≡ length xs
+unfolding ascending_values
+length-ascending_values [] = refl
+length-ascending_values (x ∷ xs) = length-with_value x (ascending_values xs) ∙ omega (arith, length-ascending_values xs)

@@ -7,9 +7,9 @@ use Rattle.svr_num.specs.Aggregates.{aggregate_of, sum_of}
 use Rattle.svr_num.specs.declared.aggregate.Aggregate.{Aggregate}
 use Rattle.svr_num.specs.declared.aggregate.Aggregate.TheVariants as how
 use Rattle.svr_num.specs.Numbers.{floor_of}
-use Rattle.svr_groups.specs.Values.{with_value, ascending}
+use Rattle.svr_groups.specs.Values.{with_value, ascending_values}
 use Rattle.svr_groups.proofs.Ascending.{with_value-less, with_value-here}
-use Rattle.svr_groups.proofs.Ascending.{length-with_value, length-ascending}
+use Rattle.svr_groups.proofs.Ascending.{length-with_value, length-ascending_values}
 use Rattle.svr_groups.proofs.Order.{NoneLess, Rises, Rises-from_ascending}
 
 -- ---- sums
@@ -25,10 +25,10 @@ unfolding with_value sum_of
 sum_of-with_value v [] = refl
 sum_of-with_value v (x ∷ xs) = sum_of-with_at v x xs (int_lt x v) refl (sum_of-with_value v xs)
 
-pub sum_of-ascending : (xs : List ℤ) → sum_of (ascending xs) ≡ sum_of xs
-unfolding sum_of ascending
-sum_of-ascending [] = refl
-sum_of-ascending (x ∷ xs) = sum_of-with_value x (ascending xs) ∙ ap (λ z. x +ℤ z) (sum_of-ascending xs)
+pub sum_of-ascending_values : (xs : List ℤ) → sum_of (ascending_values xs) ≡ sum_of xs
+unfolding sum_of ascending_values
+sum_of-ascending_values [] = refl
+sum_of-ascending_values (x ∷ xs) = sum_of-with_value x (ascending_values xs) ∙ ap (λ z. x +ℤ z) (sum_of-ascending_values xs)
 
 -- ---- folds in which the order of the values is all one
 
@@ -44,10 +44,10 @@ module _ (f : ℤ → ℤ → ℤ) (swapped : (a x y : ℤ) → f (f a x) y ≡ 
   fold-with_value a v [] = refl
   fold-with_value a v (x ∷ xs) = fold-with_at a v x xs (int_lt x v) refl (fold-with_value (f a x) v xs)
 
-  fold-ascending : (a : ℤ) (xs : List ℤ) → fold f a (ascending xs) ≡ fold f a xs
-  unfolding ascending
-  fold-ascending a [] = refl
-  fold-ascending a (x ∷ xs) = fold-with_value a x (ascending xs) ∙ fold-ascending (f a x) xs
+  fold-ascending_values : (a : ℤ) (xs : List ℤ) → fold f a (ascending_values xs) ≡ fold f a xs
+  unfolding ascending_values
+  fold-ascending_values a [] = refl
+  fold-ascending_values a (x ∷ xs) = fold-with_value a x (ascending_values xs) ∙ fold-ascending_values (f a x) xs
 
 int_min-swapped : (a x y : ℤ) → int_min (int_min a x) y ≡ int_min (int_min a y) x
 int_min-swapped a x y = omega (arith, ints, clamps)
@@ -93,21 +93,21 @@ aggregate_of-with_value how empty v (x ∷ xs) = aggregate_of-with_at how empty 
 
 -- the first of the values comes to the same among the others in their order
 aggregate_of-rest : (how : Aggregate) (empty x : ℤ) (xs : List ℤ)
-    → aggregate_of how empty (x ∷ ascending xs) ≡ aggregate_of how empty (x ∷ xs)
+    → aggregate_of how empty (x ∷ ascending_values xs) ≡ aggregate_of how empty (x ∷ xs)
 unfolding aggregate_of sum_of
-aggregate_of-rest how.Sum empty x xs = ap (λ z. x +ℤ z) (sum_of-ascending xs)
-aggregate_of-rest how.Count empty x xs = ap (λ n. pos (suc n)) (length-ascending xs)
-aggregate_of-rest how.Min empty x xs = fold-ascending int_min int_min-swapped x xs
-aggregate_of-rest how.Max empty x xs = fold-ascending int_max int_max-swapped x xs
+aggregate_of-rest how.Sum empty x xs = ap (λ z. x +ℤ z) (sum_of-ascending_values xs)
+aggregate_of-rest how.Count empty x xs = ap (λ n. pos (suc n)) (length-ascending_values xs)
+aggregate_of-rest how.Min empty x xs = fold-ascending_values int_min int_min-swapped x xs
+aggregate_of-rest how.Max empty x xs = fold-ascending_values int_max int_max-swapped x xs
 aggregate_of-rest how.Avg empty x xs =
-    average-same _ _ _ _ (ap (λ z. x +ℤ z) (sum_of-ascending xs)) (ap suc (length-ascending xs))
+    average-same _ _ _ _ (ap (λ z. x +ℤ z) (sum_of-ascending_values xs)) (ap suc (length-ascending_values xs))
 
-pub aggregate_of-ascending : (how : Aggregate) (empty : ℤ) (xs : List ℤ)
-    → aggregate_of how empty (ascending xs) ≡ aggregate_of how empty xs
-unfolding ascending
-aggregate_of-ascending how empty [] = refl
-aggregate_of-ascending how empty (x ∷ xs) =
-    aggregate_of-with_value how empty x (ascending xs) ∙ aggregate_of-rest how empty x xs
+pub aggregate_of-ascending_values : (how : Aggregate) (empty : ℤ) (xs : List ℤ)
+    → aggregate_of how empty (ascending_values xs) ≡ aggregate_of how empty xs
+unfolding ascending_values
+aggregate_of-ascending_values how empty [] = refl
+aggregate_of-ascending_values how empty (x ∷ xs) =
+    aggregate_of-with_value how empty x (ascending_values xs) ∙ aggregate_of-rest how empty x xs
 
 -- ---- the least and the greatest of values in their order
 
@@ -115,7 +115,7 @@ least-first : (x : ℤ) (xs : List ℤ) → NoneLess x xs → fold int_min x xs 
 least-first x [] none = refl
 least-first x (y ∷ ys) none = ap (λ z. fold int_min z ys) (rw none.0 refl) ∙ least-first x ys none.1
 
-pub aggregate_of-min : (empty : ℤ) (xs : List ℤ) → ascending xs ≡ xs → aggregate_of how.Min empty xs ≡ unwrap_or (slice_get xs 0) empty
+pub aggregate_of-min : (empty : ℤ) (xs : List ℤ) → ascending_values xs ≡ xs → aggregate_of how.Min empty xs ≡ unwrap_or (slice_get xs 0) empty
 unfolding aggregate_of
 aggregate_of-min empty [] is = refl
 aggregate_of-min empty (x ∷ xs) is = least-first x xs (Rises-from_ascending (x ∷ xs) is).0
@@ -125,7 +125,7 @@ greatest-last empty x [] rises = refl
 greatest-last empty x (y ∷ ys) rises =
     ap (λ z. fold int_max z ys) (rw rises.0.0 refl) ∙ greatest-last empty y ys rises.1
 
-pub aggregate_of-max : (empty : ℤ) (xs : List ℤ) → ascending xs ≡ xs
+pub aggregate_of-max : (empty : ℤ) (xs : List ℤ) → ascending_values xs ≡ xs
     → aggregate_of how.Max empty xs ≡ unwrap_or (slice_get xs (length xs - 1)) empty
 unfolding aggregate_of
 aggregate_of-max empty [] is = refl

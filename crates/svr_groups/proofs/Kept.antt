@@ -10,11 +10,11 @@ use Rattle.std.proofs.lemmas.List.Elements.{All-cons, All-tail}
 use Rattle.svr_num.specs.Aggregates.{IsValue, aggregate_of, sum_of}
 use Rattle.svr_num.specs.declared.aggregate.Aggregate.TheVariants as how
 use Rattle.svr_num.specs.Numbers.{floor_of}
-use Rattle.svr_groups.specs.Values.{with_value, without_value, ascending}
+use Rattle.svr_groups.specs.Values.{with_value, without_value, ascending_values}
 use Rattle.svr_groups.specs.Layout.{IsGroup, IsPlaceOf}
 use Rattle.svr_groups.proofs.Ascending.{with_value-less, with_value-here, without_value-here, without_value-other}
-use Rattle.svr_groups.proofs.Ascending.{int_eq-refl, same_from_int_eq, ascending-with_value, length-with_value}
-use Rattle.svr_groups.proofs.Order.{ascending-without_value, insert-place, place-below, remove-place}
+use Rattle.svr_groups.proofs.Ascending.{int_eq-refl, same_from_int_eq, ascending_values-with_value, length-with_value}
+use Rattle.svr_groups.proofs.Order.{ascending_values-without_value, insert-place, place-below, remove-place}
 use Rattle.svr_groups.proofs.Folds.{aggregate_of-average, sum_of-with_value}
 use Rattle.svr_groups.proofs.Bounds.{IsValue-sum_of}
 
@@ -73,7 +73,7 @@ LacksOne-without_value v (x ∷ xs) there =
 -- ---- groups
 
 pub IsGroup-one : (v : ℤ) → FitsSigned w64 v → IsGroup v (v ∷ [])
-unfolding ascending with_value sum_of
+unfolding ascending_values with_value sum_of
 IsGroup-one v fits = record {
   ordered = refl;
   fit = All-cons (FitsSigned w64) v [] fits (λ k d h. absurd (omega arith));
@@ -84,7 +84,7 @@ IsGroup-one v fits = record {
 module _ (sum v : ℤ) (xs : List ℤ) (group : IsGroup sum xs) where
   pub IsGroup-with_value : FitsSigned w64 v → length xs ≤ 2 ^ 18 → IsGroup (sum +ℤ v) (with_value v xs)
   IsGroup-with_value fits room = record {
-    ordered = ascending-with_value v xs ∙ ap (with_value v) group.ordered;
+    ordered = ascending_values-with_value v xs ∙ ap (with_value v) group.ordered;
     fit = All-with_value (FitsSigned w64) v xs fits group.fit;
     few = let e = length-with_value v xs in omega arith;
     summed = let e = sum_of-with_value v xs in let s = group.summed in omega (arith, ints);
@@ -93,7 +93,7 @@ module _ (sum v : ℤ) (xs : List ℤ) (group : IsGroup sum xs) where
   pub IsGroup-without_value : Contains xs v → IsGroup (sum -ℤ v) (without_value v xs)
   IsGroup-without_value there =
       let less = LacksOne-without_value v xs there in record {
-        ordered = ascending-without_value v xs group.ordered;
+        ordered = ascending_values-without_value v xs group.ordered;
         fit = All-without_value (FitsSigned w64) v xs group.fit;
         few = let e = less.count in let few = group.few in omega arith;
         summed = let e = less.sum in let s = group.summed in omega (arith, ints);
@@ -135,7 +135,7 @@ module _ (v : ℤ) (xs ys : List ℤ) (i : ℕ) (fits : FitsSigned w64 v) (same 
     pub placed-below : i < length xs
     placed-below = place-below v xs i placed (subst (λ zs. Contains zs v) (sym same) there)
 
-    pub remove-placed : ascending xs ≡ xs → remove xs i ≡ without_value v xs
+    pub remove-placed : ascending_values xs ≡ xs → remove xs i ≡ without_value v xs
     remove-placed is = remove-place v xs i is placed (subst (λ zs. Contains zs v) (sym same) there)
 
 -- ---- the average, as the code has it

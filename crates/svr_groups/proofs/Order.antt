@@ -7,7 +7,7 @@ use Rattle.std.specs.List.Sorted.{IsPartitionedBy}
 use Rattle.std.specs.Ordering.{int_eq}
 use Rattle.std.proofs.lemmas.Int.{ints}
 use Rattle.std.proofs.lemmas.Bool.{cases_lt}
-use Rattle.svr_groups.specs.Values.{with_value, without_value, ascending}
+use Rattle.svr_groups.specs.Values.{with_value, without_value, ascending_values}
 use Rattle.svr_groups.specs.Layout.{IsPlaceOf}
 use Rattle.svr_groups.proofs.Ascending.{int_eq-refl, int_eq-less, not_less-trans, not_less-from_less}
 use Rattle.svr_groups.proofs.Ascending.{with_value-less, with_value-here, without_value-here, without_value-other, same_from_none_less}
@@ -55,23 +55,23 @@ unfolding with_value
 Rises-with_value v [] rises = (tt, tt)
 Rises-with_value v (x ∷ xs) rises = Rises-with_at v x xs (int_lt x v) refl rises (Rises-with_value v xs rises.1)
 
-Rises-ascending : (xs : List ℤ) → Rises (ascending xs)
-unfolding ascending
-Rises-ascending [] = tt
-Rises-ascending (x ∷ xs) = Rises-with_value x (ascending xs) (Rises-ascending xs)
+Rises-ascending_values : (xs : List ℤ) → Rises (ascending_values xs)
+unfolding ascending_values
+Rises-ascending_values [] = tt
+Rises-ascending_values (x ∷ xs) = Rises-with_value x (ascending_values xs) (Rises-ascending_values xs)
 
 with_value-none_less : (x : ℤ) (xs : List ℤ) → NoneLess x xs → with_value x xs ≡ x ∷ xs
 unfolding with_value
 with_value-none_less x [] none = refl
 with_value-none_less x (y ∷ ys) none = with_value-here x y ys none.0
 
-pub ascending-from_rises : (xs : List ℤ) → Rises xs → ascending xs ≡ xs
-unfolding ascending
-ascending-from_rises [] rises = refl
-ascending-from_rises (x ∷ xs) rises = ap (with_value x) (ascending-from_rises xs rises.1) ∙ with_value-none_less x xs rises.0
+pub ascending_values-from_rises : (xs : List ℤ) → Rises xs → ascending_values xs ≡ xs
+unfolding ascending_values
+ascending_values-from_rises [] rises = refl
+ascending_values-from_rises (x ∷ xs) rises = ap (with_value x) (ascending_values-from_rises xs rises.1) ∙ with_value-none_less x xs rises.0
 
-pub Rises-from_ascending : (xs : List ℤ) → ascending xs ≡ xs → Rises xs
-Rises-from_ascending xs is = subst Rises is (Rises-ascending xs)
+pub Rises-from_ascending : (xs : List ℤ) → ascending_values xs ≡ xs → Rises xs
+Rises-from_ascending xs is = subst Rises is (Rises-ascending_values xs)
 
 -- ---- one value less
 
@@ -98,8 +98,8 @@ unfolding without_value
 Rises-without_value v [] rises = tt
 Rises-without_value v (x ∷ xs) rises = Rises-without_at v x xs (int_eq x v) refl rises (Rises-without_value v xs rises.1)
 
-pub ascending-without_value : (v : ℤ) (xs : List ℤ) → ascending xs ≡ xs → ascending (without_value v xs) ≡ without_value v xs
-ascending-without_value v xs is = ascending-from_rises (without_value v xs) (Rises-without_value v xs (Rises-from_ascending xs is))
+pub ascending_values-without_value : (v : ℤ) (xs : List ℤ) → ascending_values xs ≡ xs → ascending_values (without_value v xs) ≡ without_value v xs
+ascending_values-without_value v xs is = ascending_values-from_rises (without_value v xs) (Rises-without_value v xs (Rises-from_ascending xs is))
 
 -- ---- places
 
@@ -119,7 +119,7 @@ less-along : (x y v : ℤ) → int_lt y x ≡ false → int_lt y v ≡ true → 
 less-along x y v h k = grind (arith, ints)
 
 -- those that are less than v stand in front
-pub IsPartitionedBy-less : (v : ℤ) (xs : List ℤ) → ascending xs ≡ xs → IsPartitionedBy (λ x. int_lt x v) xs
+pub IsPartitionedBy-less : (v : ℤ) (xs : List ℤ) → ascending_values xs ≡ xs → IsPartitionedBy (λ x. int_lt x v) xs
 IsPartitionedBy-less v xs is = λ i j d h k less.
     less-along (get_or xs i d) (get_or xs j d) v (rises-at xs (Rises-from_ascending xs is) i j d h k) less
 
@@ -175,7 +175,7 @@ remove-at v (x ∷ xs) (suc i) rises place there =
     (remove-at v xs i rises.1 (IsPlaceOf-rest v x xs i place) (Contains-rest v x xs (not_same-from_less x v less) there))
     ∙ sym (without_value-other v x xs (int_eq-less x v less))
 
-pub remove-place : (v : ℤ) (xs : List ℤ) (i : ℕ) → ascending xs ≡ xs → IsPlaceOf v xs i → Contains xs v → remove xs i ≡ without_value v xs
+pub remove-place : (v : ℤ) (xs : List ℤ) (i : ℕ) → ascending_values xs ≡ xs → IsPlaceOf v xs i → Contains xs v → remove xs i ≡ without_value v xs
 remove-place v xs i is place there = remove-at v xs i (Rises-from_ascending xs is) place there
 
 Contains-with_at : (v x : ℤ) (xs : List ℤ) (b : Bool) → int_lt x v ≡ b → Contains (with_value v xs) v → Contains (with_value v (x ∷ xs)) v

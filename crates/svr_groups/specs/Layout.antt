@@ -5,12 +5,12 @@ use Rattle.std.specs.Int.RustNames.{FitsSigned}
 use Rattle.std.specs.Int.{w64}
 use Rattle.std.specs.Map.{values_of}
 use Rattle.svr_num.specs.Aggregates.{sum_of}
-use Rattle.svr_groups.specs.Values.{ascending}
+use Rattle.svr_groups.specs.Values.{ascending_values}
 use Rattle.svr_groups.specs.Groups.{values_of_id}
 
 -- numbers of 64 bits in their order, and their sum
 pub record IsGroup (sum : ℤ) (values : List ℤ) : Type 0 where
-  pub ordered : ascending values ≡ values
+  pub ordered : ascending_values values ≡ values
   pub fit : All (FitsSigned w64) values
   pub few : length values ≤ 2 ^ 18 + 1
   pub summed : sum ≡ sum_of values

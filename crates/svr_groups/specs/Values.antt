@@ -13,6 +13,6 @@ without_value v [] = []
 without_value v (x ∷ xs) = if int_eq x v then xs else x ∷ without_value v xs
 
 -- values in their order
-unfoldable pub ascending : List ℤ → List ℤ
-ascending [] = []
-ascending (x ∷ xs) = with_value x (ascending xs)
+unfoldable pub ascending_values : List ℤ → List ℤ
+ascending_values [] = []
+ascending_values (x ∷ xs) = with_value x (ascending_values xs)
