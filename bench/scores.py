@@ -6,13 +6,13 @@ Run it with the program's path: bench/scores.py crates/svr/out/svr
 
 import json
 import random
-import resource
 import subprocess
 import sys
+import threading
 import time
 
 DOCUMENTS = 20_000
-UPDATES = 100_000
+UPDATES = 200_000
 SCHEMA = {
     "tables": [
         {"name": "movies", "columns": [{"name": "id", "type": "int"}, {"name": "title", "type": "text"}]},
@@ -45,13 +45,21 @@ def visits(chance, count):
     return [[number, chance.randrange(DOCUMENTS), chance.randrange(1_000)] for number in range(count)]
 
 
-def played(program, text):
-    """Seconds that the program takes, and the most memory that it had, in bytes."""
-    start = time.monotonic()
+def seconds(program, before, changes):
+    """Seconds from the first byte of the changes to the last reply to them, when all that is before them is answered."""
     child = subprocess.Popen([program, "serve"], stdin=subprocess.PIPE, stdout=subprocess.PIPE)
-    replies, _ = child.communicate(text.encode())
+    child.stdin.write(before.encode())
+    child.stdin.flush()
+    for _ in range(3):
+        assert b"ok" in child.stdout.readline()
+    text = changes.encode()
+    writer = threading.Thread(target=lambda: (child.stdin.write(text), child.stdin.close()))
+    start = time.monotonic()
+    writer.start()
+    replies = child.stdout.read()
     spent = time.monotonic() - start
-    assert child.returncode == 0 and b"error" not in replies
+    writer.join()
+    assert child.wait() == 0 and replies.count(b"ok") == UPDATES
     return spent
 
 
@@ -69,7 +77,7 @@ def updates(program, count):
     changes = "".join(
         line(op="update", table="visits", row=[*chance.choice(rows)[:2], chance.randrange(1_000)]) for _ in range(UPDATES)
     )
-    spent = min(played(program, before + changes) for _ in range(3)) - min(played(program, before) for _ in range(3))
+    spent = min(seconds(program, before, changes) for _ in range(5))
     print(f"{count} visits of {DOCUMENTS} documents: {spent / UPDATES * 1e6:.1f} us an update of one")
 
 
