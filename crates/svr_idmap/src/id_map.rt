@@ -1,7 +1,10 @@
-ghost use Rattle.std.specs.Prelude.{◌≡◌, ◌<◌, ◌≤◌, ◌^◌, ℕ, [], None, Some, OnOk, OnErr, vec_len};
+ghost use Rattle.std.specs.Prelude.{◌≡◌, [], IfOk, OnOk, OnErr, Some, None, length, option_copied};
+ghost use Rattle.std.specs.BTreeMap.{insert_entry, is_at};
+ghost use Rattle.std.specs.Map.{remove_entry};
+ghost use Rattle.std.specs.Ordering.{nat_cmp};
 ghost use Rattle.svr_idmap.specs.Ids.{SetsValue, value_at};
-ghost use Rattle.svr_idmap.specs.Layout.{KeepsEntries};
 
+use crate::dense::Dense;
 use std::alloc::Global;
 use std::collections::BTreeMap;
 use std::marker::Model;
@@ -16,85 +19,78 @@ pub const DENSE_IDS: u64 = 262_144;
 /// chosen, a look-up costs a search in such a map at most. Contracts see the ids with their values, in ascending order of id.
 #[derive(Drop)]
 pub struct IdMap<V> {
-    dense: Vec<Option<V>>,
+    dense: Dense<V>,
     sparse: BTreeMap<DocId, V>,
 }
 
 impl<V> Model for IdMap<V> {
     ghost use Rattle.std.specs.Prelude.{List, ℕ, ◌++◌};
     ghost use Rattle.std.specs.Coded.{coded_list, coded×, coded_ℕ};
-    ghost use Rattle.svr_idmap.specs.Layout.{IsKept, entries_from};
+    ghost use Rattle.svr_idmap.specs.Layout.{AreParted};
 
     ghost Value = { List (ℕ × V) };
 
     ghost coded = { coded_list (coded× coded_ℕ V.code) };
 
-    ghost view = { λ m. entries_from 0 m.dense.items ++ m.sparse.entries };
+    ghost view = { λ m. m.dense ++ m.sparse.entries };
 
-    ghost invariant = { λ m. IsKept m.dense.items m.sparse.entries };
+    ghost invariant = { λ m. AreParted m.dense m.sparse.entries };
 }
 
-/// Makes a vector so long that an id has a place in it.
-fn make_place<V: Copy + Drop>(dense: &mut Vec<Option<V>>, id: usize) -> Result<(), Memory>
-    requires few { vec_len dense.old ≤ 2 ^ 18 }
-    requires id { id < 2 ^ 18 }
-    ensures place { OnOk result (id < vec_len dense.new) }
-    ensures few { vec_len dense.new ≤ 2 ^ 18 }
-    ensures kept { KeepsEntries dense.old.items dense.new.items }
-{
-    while dense.len() <= id {
-        dense.push(None)?;
-    }
-    Ok(())
-}
-
-impl<V: Copy + Drop> IdMap<V> {
+impl<V: Drop> IdMap<V> {
     /// No values.
     pub fn new(alloc: Global) -> IdMap<V>
         ensures { result ≡ [] }
     {
         IdMap {
-            dense: Vec::new(alloc),
+            dense: Dense::new(alloc),
             sparse: BTreeMap::new(alloc),
         }
     }
 
-    /// The value of an id, if it has one.
-    pub fn get(&self, id: DocId) -> Option<V>
-        ensures { result ≡ value_at self.now id }
+    /// How many ids have a value.
+    pub fn len(&self) -> usize
+        ensures { result ≡ length self.now }
     {
-        if id >= DENSE_IDS {
-            return self.sparse.get(&id).copied();
-        }
-        if (id as usize) < self.dense.len() {
-            self.dense[id as usize]
+        self.dense.len() + self.sparse.len()
+    }
+
+    /// The value of an id, if it has one.
+    pub fn get(&self, id: DocId) -> Option<&V>
+        ensures { option_copied result ≡ value_at self.now id }
+    {
+        if id < DENSE_IDS {
+            self.dense.get(id as usize)
         } else {
-            None
+            self.sparse.get(&id)
         }
     }
 
-    /// Gives an id a value, in place of the one that it has.
-    pub fn set(&mut self, id: DocId, value: V) -> Result<(), Memory>
-        ensures ok { OnOk result (SetsValue self.old self.new id (Some value)) }
+    /// Gives an id a value, and answers the one that it had.
+    pub fn insert(&mut self, id: DocId, value: V) -> Result<Option<V>, Memory>
+        ensures changed { OnOk result (self.new ≡ insert_entry nat_cmp self.old id value) }
+        ensures sets { OnOk result (SetsValue self.old self.new id (Some value)) }
+        ensures before { IfOk result (λ before. before ≡ value_at self.old id) }
         ensures err { OnErr result (self.new ≡ self.old) }
     {
-        if id >= DENSE_IDS {
-            self.sparse.insert(id, value)?;
-            return Ok(());
+        if id < DENSE_IDS {
+            let before = self.dense.insert(id as usize, value)?;
+            return Ok(before);
         }
-        make_place(&mut self.dense, id as usize)?;
-        self.dense[id as usize] = Some(value);
-        Ok(())
+        let before = self.sparse.insert(id, value)?;
+        Ok(before)
     }
 
-    /// Takes the value of an id out, if it has one.
-    pub fn forget(&mut self, id: DocId)
-        ensures { SetsValue self.old self.new id None }
+    /// Takes the value of an id out, and answers it, if it had one.
+    pub fn remove(&mut self, id: DocId) -> Option<V>
+        ensures changed { self.new ≡ remove_entry (is_at (nat_cmp id)) self.old }
+        ensures sets { SetsValue self.old self.new id None }
+        ensures before { result ≡ value_at self.old id }
     {
-        if id >= DENSE_IDS {
-            self.sparse.remove(&id);
-        } else if (id as usize) < self.dense.len() {
-            self.dense[id as usize] = None;
+        if id < DENSE_IDS {
+            self.dense.remove(id as usize)
+        } else {
+            self.sparse.remove(&id)
         }
     }
 }

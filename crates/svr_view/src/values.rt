@@ -76,13 +76,17 @@ pub(crate) fn settle(
     ensures within { AreScores scores.new }
     ensures moved { IfOk result (λ moved. moved ≡ move_of id (score_at_id scores.old id) score) }
 {
-    let old = scores.get(id);
+    let old = scores.get(id).copied();
     if old == score {
         return Ok(None);
     }
     match score {
-        Some(score) => scores.set(id, score)?,
-        None => scores.forget(id),
+        Some(score) => {
+            scores.insert(id, score)?;
+        }
+        None => {
+            scores.remove(id);
+        }
     }
     Ok(Some(ScoreMove {
         id,

@@ -131,6 +131,6 @@ impl Scores for ScoreView {
     ghost score_of = { λ v id. score_in v id };
 
     fn score(&self, id: DocId) -> Option<Score> {
-        self.scores.get(id)
+        self.scores.get(id).copied()
     }
 }
