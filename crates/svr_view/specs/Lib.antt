@@ -1,0 +1,3 @@
+pub mod Score
+pub mod View
+pub mod Layout
