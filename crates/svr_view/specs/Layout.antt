@@ -1,6 +1,6 @@
 -- Words of private clauses: what a row counts, and scores by kept values.
 use Rattle.std.specs.Prelude.{◌≡◌, ◌≤◌, ◌^◌, ◌-◌, ℕ, ◌+◌, ◌==◌, ◌&&◌, ℤ, pos, negsuc, List, [], ◌∷◌, length, slice_get}
-use Rattle.std.specs.Prelude.{Bool, false, Option, Some, None, if◌then◌else◌, Contains, IfSome}
+use Rattle.std.specs.Prelude.{false, Option, Some, None, if◌then◌else◌, Contains, IfSome}
 use Rattle.std.specs.BTreeMap.{is_at}
 use Rattle.std.specs.BTreeSet.{BTreeSet, contains}
 use Rattle.std.specs.List.{filter_map, list_any}
@@ -67,7 +67,7 @@ with_values (v ∷ vs) values = with_value v (with_values vs values)
 
 abbrev pub without_values : List ℤ → List ℤ → List ℤ
 without_values [] values = values
-without_values (v ∷ vs) values = without_value v (without_values vs values)
+without_values (v ∷ vs) values = without_values vs (without_value v values)
 
 -- a component has these values now, and every other has its own
 pub record SetsComponent (old new : Grouped) (c : ℕ) (values : ℕ → List ℤ) : Type 0 where
@@ -79,6 +79,15 @@ pub record SetsComponent (old new : Grouped) (c : ℕ) (values : ℕ → List �
 abbrev pub IsCounted : Grouped → ℕ → Option Counted → Type 0
 IsCounted groups c None = Unit {0}
 IsCounted groups c (Some counted) = Contains (values_at groups c counted.id) counted.value
+
+abbrev pub AllCounted : List Component → ℕ → Option Row → Grouped → Type 0
+AllCounted components table row groups =
+    (c : ℕ) (component : Component) → slice_get components c ≡ Some component → IsCounted groups c (counted_of component table row)
+
+-- there is room for one value more
+abbrev pub IsRoomy : List Component → Grouped → Type 0
+IsRoomy components groups =
+    (c : ℕ) (component : Component) → slice_get components c ≡ Some component → (id : ℕ) → length (values_at groups c id) ≤ 2 ^ 18
 
 -- the values of a component for an id after one row went and another came
 abbrev pub exchanged : Component → ℕ → Option Row → Option Row → ℕ → List ℤ → List ℤ
@@ -128,19 +137,24 @@ AreScores scores = (id : ℕ) → IsScore (score_at_id scores id)
 
 -- the document with the id has this score now, and every other has its own
 abbrev pub SetsScore : List (ℕ × ℕ) → List (ℕ × ℕ) → ℕ → Option ℕ → Type 0
-SetsScore old new id score = (k : ℕ) → score_at_id new k ≡ (if k == id then score else score_at_id old k)
+SetsScore old new id score = (k : ℕ) → score_at_id new k ≡ (if id == k then score else score_at_id old k)
 
 -- the same of several documents
 abbrev pub SetsScores : List (ℕ × ℕ) → List (ℕ × ℕ) → List ℕ → (ℕ → Option ℕ) → Type 0
 SetsScores old new ids score = (k : ℕ) → score_at_id new k ≡ (if list_any (λ id. id == k) ids then score k else score_at_id old k)
 
--- documents got the scores that they have now, and no other that isn't untouched is left out; the moves are theirs
-pub record NotesIds (before after : Viewed) (untouched : ℕ → Type 0) (score : ℕ → Option ℕ) (moves : List ScoreMove) : Type 0 where
-  pub ids : List ℕ
+-- some documents, by ascending id, got the scores that they have now, and the moves are theirs
+pub record NotesIds (before after : Viewed) (ids : List ℕ) (score : ℕ → Option ℕ) (moves : List ScoreMove) : Type 0 where
   pub ascending : IsStrictlyIncreasing ids
-  pub complete : (id : ℕ) → list_any (λ k. k == id) ids ≡ false → untouched id
   pub scores : SetsScores before.scores after.scores ids score
   pub moved : moves ≡ filter_map (λ id. move_of id (score_in before id) (score id)) ids
+
+-- the same of all documents for which a row counted, or counts now
+pub record NotesCounted (components : List Component) (table : ℕ) (old new : Option Row) (before after : Viewed) (score : ℕ → Option ℕ)
+    (moves : List ScoreMove) : Type 0 where
+  pub ids : List ℕ
+  pub complete : (id : ℕ) → list_any (λ k. k == id) ids ≡ false → AllUntouched components table old new id
+  pub notes : NotesIds before after ids score moves
 
 -- a value that was counted names one of the ids, and no other is left out
 pub record AddsId (old new : BTreeSet ℕ) (counted : Option Counted) : Type 0 where

@@ -3,6 +3,7 @@
 
 mod counted;
 mod score_move;
+mod values;
 mod view;
 
 pub use score_move::ScoreMove;

@@ -1,8 +1,8 @@
 //! Scores by kept values.
-ghost use Rattle.std.specs.Prelude.{◌≡◌, ◌≤◌, ◌<◌, ◌^◌, ◌-◌, length, option_map, IfOk, OnOk};
+ghost use Rattle.std.specs.Prelude.{◌≡◌, ◌≤◌, ◌<◌, ◌^◌, ◌-◌, ◌++◌, [], length, option_map, IfOk, OnOk};
 ghost use Rattle.svr_num.specs.Aggregates.{IsValue};
 ghost use Rattle.svr_rows.specs.Rows.{HasId, row_at, rows_in};
-ghost use Rattle.std.specs.List.{filter_map};
+ghost use Rattle.std.specs.List.{cons_option, filter_map};
 ghost use Rattle.std.specs.List.Sorted.{IsStrictlyIncreasing};
 ghost use Rattle.svr_schema.specs.Lawful.{IsSchema};
 ghost use Rattle.svr_view.specs.Layout.{AreScores, IsScore, SetsScore, SetsScores, score_at_id, score_by, value_by};
@@ -94,6 +94,16 @@ pub(crate) fn settle(
     }))
 }
 
+/// Adds a move to the others, if there is one.
+pub(crate) fn add_move(moves: &mut Vec<ScoreMove>, moved: Option<ScoreMove>) -> Result<(), Memory>
+    ensures { OnOk result (moves.new.items ≡ moves.old.items ++ cons_option moved []) }
+{
+    if let Some(moved) = moved {
+        moves.push(moved)?;
+    }
+    Ok(())
+}
+
 /// Gives each of some documents the score that it has now, by ascending id, and tells which of them that moves.
 pub(crate) fn settle_all(
     alloc: Global,
@@ -116,9 +126,8 @@ pub(crate) fn settle_all(
     let mut moves = Vec::new(alloc);
     for id in ids {
         let score = score_now(schema, groups, tables, *id);
-        if let Some(moved) = settle(scores, *id, score)? {
-            moves.push(moved)?;
-        }
+        let moved = settle(scores, *id, score)?;
+        add_move(&mut moves, moved)?;
     }
     Ok(moves)
 }

@@ -1,0 +1,10 @@
+pub mod Exchanged
+pub mod Counting
+pub mod Recounted
+pub mod Scored
+pub mod Moved
+pub mod Filled
+pub mod Found
+pub mod Settling
+pub mod Noted
+pub mod Empty
