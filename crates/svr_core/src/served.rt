@@ -1,10 +1,10 @@
-ghost use Rattle.std.specs.Prelude.{◌≡◌, ◌+◌, ◌<◌, ◌≤◌, ◌^◌, length, Some, IfOk, IfErr, OnOk};
+ghost use Rattle.std.specs.Prelude.{◌≡◌, ◌+◌, ◌<◌, ◌≤◌, ◌^◌, length, Some, IfOk, IfErr, OnOk, OnErr};
 ghost use Rattle.serde_json.specs.View.{view};
 ghost use Rattle.svr_request.specs.Replies.{IsPrintable};
 ghost use Rattle.svr_request.specs.Requests.{seen, seen_or_refused, with_block};
 ghost use Rattle.svr_core.specs.Edits.{Accepts, edited};
 ghost use Rattle.svr_core.specs.Outcomes.{changes_to, is_plain, outcome_of, refused, schema_outcome, served_so_far, wanted_outcome};
-ghost use Rattle.svr_core.specs.Run.{MayReply, state_then};
+ghost use Rattle.svr_core.specs.Run.{IsChange, MayReply, state_then};
 ghost use Rattle.svr_core.specs.State.{empty, new_catalog};
 ghost use Rattle.svr_core.specs.Steps.{Plans};
 
@@ -65,6 +65,7 @@ impl Core {
         ensures reply { IfOk result (MayReply self.old (with_block (seen_or_refused request) block.now)) }
         ensures state { IfOk result (λ reply. self.new ≡ state_then self.old (with_block (seen_or_refused request) block.now) reply) }
         ensures printable { IfOk result IsPrintable }
+        ensures change { OnErr result (IsChange self.old (with_block (seen_or_refused request) block.now)) }
     {
         match self.plan(alloc, request, block) {
             Ok(Plan::Answer(answer)) => Ok(Reply::Found(answer)),

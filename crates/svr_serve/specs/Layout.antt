@@ -2,7 +2,7 @@
 use Rattle.std.specs.Prelude.{◌≡◌, ◌⊎◌, ◌<◌, ◌≤◌, ◌+◌, ◌^◌, ℕ, true, false, List, [], ◌∷◌, ◌++◌, length}
 use Rattle.std.specs.Prelude.{Option, IfSome, Result, IsErrOf}
 use Rattle.std.specs.Io.KnownBytes.{Appends, Consumes}
-use Rattle.svr_core.specs.Run.{IsRun, MayReply, state_then, texts}
+use Rattle.svr_core.specs.Run.{IsChange, IsRun, MayReply, state_then, texts}
 use Rattle.svr_core.specs.State.{State, empty}
 use Rattle.svr_edge.specs.Causes.{Rose}
 use Rattle.svr_lines.specs.declared.lines.InputStop.{InputStop}
@@ -158,17 +158,19 @@ PrintsAnswer request old new =
 
 -- the next request was taken and answered, and the text of the reply is ready
 abbrev pub PrintsReply : Option (List ℕ) → Option (List ℕ) → Session → Session → Type 0
-PrintsReply before after old new = (reply : Reply) × Answers before after old.lines new.lines old.core new.core reply × (new.reply ≡ text_of reply)
+PrintsReply before after old new =
+    (reply : Reply) × Answers before after old.lines new.lines old.core new.core reply × (new.reply ≡ text_of reply)
 
--- the next request was taken, and memory was wanting to carry it out; of what is served nothing is said
-pub record TakesUndone (before after : Option (List ℕ)) (old new : Reading) : Type 0 where
+-- the next request was taken, which is accepted as a change, and memory was wanting to make it; of what is served nothing is said
+pub record TakesUndone (before after : Option (List ℕ)) (old new : Reading) (core : State) : Type 0 where
   pub request : Submitted
   pub takes : TakesRequest before after old new request
+  pub change : IsChange core request
 
 -- no request could be taken, and nothing has changed; or one that was taken couldn't be carried out
 abbrev pub StopsUnanswered : Ending → Option (List ℕ) → Option (List ℕ) → Reading → Reading → State → State → Type 0
 StopsUnanswered e before after old new core now =
-    (StopsReading e before after old new × (now ≡ core)) ⊎ ((e ≡ ending.Memory) × TakesUndone before after old new)
+    (StopsReading e before after old new × (now ≡ core)) ⊎ ((e ≡ ending.Memory) × TakesUndone before after old new core)
 
 -- all that a turn reads or changes
 pub record Standing : Type 0 where

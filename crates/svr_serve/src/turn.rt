@@ -1,7 +1,10 @@
-ghost use Rattle.std.specs.Prelude.{◌≡◌, ◌⊎◌, ◌+◌, ◌<◌, ◌≤◌, ◌^◌, true, false, length, Ok, Err, None, IfOk, OnOk, IsOk, IfSome, IfErr, IsErrOf, unwrap_or};
+ghost use Rattle.std.specs.Prelude.{◌≡◌, ◌⊎◌, ◌+◌, ◌<◌, ◌≤◌, ◌^◌, true, false, length, Ok, Err, None, unwrap_or};
+ghost use Rattle.std.specs.Prelude.{IfOk, OnOk, OnErr, IsOk, IfSome, IfErr, IsErrOf};
+ghost use Rattle.svr_core.specs.Run.{IsChange};
 ghost use Rattle.svr_lines.specs.Reading.{taken_bytes, KnowsEnd};
 ghost use Rattle.svr_request.specs.Requests.{seen_or_refused, with_block};
-ghost use Rattle.svr_serve.specs.Layout.{EndsInput, HasReadCauses, HasTurnCauses, PrintsAnswer, PrintsReply, StopsBlock, StopsReading, StopsUnanswered, TakesNext, TakesRequest, TakesWholeBlock, TurnDoes, standing};
+ghost use Rattle.svr_serve.specs.Layout.{EndsInput, HasReadCauses, HasTurnCauses, PrintsAnswer, PrintsReply, TurnDoes, standing};
+ghost use Rattle.svr_serve.specs.Layout.{StopsBlock, StopsReading, StopsUnanswered, TakesNext, TakesRequest, TakesWholeBlock};
 ghost use Rattle.svr_serve.specs.Program.{streams};
 
 use crate::ending::Ending;
@@ -95,6 +98,7 @@ fn print_answer(
     requires changes { session.old.core.changes + 1 < 2 ^ 64 }
     requires few { length session.old.lines.block ≤ 8388608 }
     ensures reply { OnOk result (PrintsAnswer (with_block (seen_or_refused request) session.old.lines.block) session.old session.new) }
+    ensures change { OnErr result (IsChange session.old.core (with_block (seen_or_refused request) session.old.lines.block)) }
     ensures lines { session.new.lines ≡ session.old.lines }
 {
     let reply = session

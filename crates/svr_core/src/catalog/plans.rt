@@ -3,7 +3,8 @@ ghost use Rattle.std.specs.Prelude.{◌≡◌, ◌≤◌, map, length, None, Som
 ghost use Rattle.svr_rows.specs.Rows.{bad_column, cell_in, kinds_of};
 ghost use Rattle.svr_schema.specs.Lawful.{IsTable};
 ghost use Rattle.svr_tokens.specs.Tokens.{tokens_of};
-ghost use Rattle.svr_core.specs.Outcomes.{change_outcome, delete_outcome, found, insert_outcome, k_of, row_of, search_outcome, update_outcome};
+ghost use Rattle.svr_core.specs.Outcomes.{change_outcome, delete_outcome, insert_outcome, row_of, update_outcome};
+ghost use Rattle.svr_core.specs.Outcomes.{found, k_of, search_outcome};
 ghost use Rattle.svr_core.specs.Steps.{IsBadRow, MayRefuse, Plans};
 
 use crate::catalog::Catalog;

@@ -14,11 +14,13 @@ returns-clause-kept c =
     let schema = c.args.schema.now in
     let tables = c.args.self.now.tables in
     let kept = c.requires.kept in
+    let entries = c.args.self.now.documents.entries in
+    let accepted = c.requires.accepted in
     let is = sym c.in_ok-apply.ensures.changed in
     record {
-      tables = subst (AreTablesOf schema) is (AreTablesOf-changed schema tables c.args.change kept.tables c.requires.accepted);
+      tables = subst (AreTablesOf schema) is (AreTablesOf-changed schema tables c.args.change kept.tables accepted);
       scores = subst (λ ts. StandsFor schema ts c.note.new.self) is c.in_ok-note.ensures.stands;
       documents = c.in_ok-follow.ensures
-          ∙ documents_after-is schema tables c.args.self.now.documents.entries kept.tables.rows kept.documents c.args.change c.requires.accepted
+          ∙ documents_after-is schema tables entries kept.tables.rows kept.documents c.args.change accepted
           ∙ ap (λ ts. documents_by_id schema (rows_in ts schema.text_table)) is;
     }
