@@ -9,7 +9,8 @@ use Rattle.std.proofs.lemmas.List.{get_or-take, get_or_default, length-take, tak
 use Rattle.std.proofs.lemmas.List.Elements.{filter_map-append}
 use Rattle.std.proofs.lemmas.List.Folds.{list_any-append, list_any_none}
 use Rattle.svr_view.specs.declared.score_move.ScoreMove.{ScoreMove}
-use Rattle.svr_view.specs.Layout.{SetsScore, SetsScores, score_at_id}
+use Rattle.svr_idmap.specs.Ids.{SetsValue}
+use Rattle.svr_view.specs.Layout.{SetsScores, score_at_id}
 use Rattle.svr_view.specs.View.{move_of}
 
 -- ---- ids that ascend
@@ -59,7 +60,7 @@ fresh : (b : Bool) (x y : Option ℕ) → b ≡ false → (if b then x else y) �
 fresh b x y e = ap (λ d. if d then x else y) e
 
 pub Settled-more : (before mid now : List (ℕ × ℕ)) (ids : List ℕ) (id : ℕ) (score : ℕ → Option ℕ) (moves : List ScoreMove)
-    → Settled before mid ids score moves → list_any (λ k. k == id) ids ≡ false → SetsScore mid now id (score id)
+    → Settled before mid ids score moves → list_any (λ k. k == id) ids ≡ false → SetsValue mid now id (score id)
     → Settled before now (ids ++ id ∷ []) score (moves ++ cons_option (move_of id (score_at_id mid id) (score id)) [])
 Settled-more before mid now ids id score moves h new sets = record {
   scores = λ k.
@@ -76,7 +77,7 @@ Settled-more before mid now ids id score moves h new sets = record {
 -- the same of the next of some ids, as the code goes over them
 pub Settled-step : (before mid now : List (ℕ × ℕ)) (all : List ℕ) (i : ℕ) (score : ℕ → Option ℕ) (result : Option ℕ)
     (moved : Option ScoreMove) (moves more : List ScoreMove) → IsStrictlyIncreasing all → i < length all
-    → Settled before mid (take i all) score moves → result ≡ score (get_or all i 0) → SetsScore mid now (get_or all i 0) result
+    → Settled before mid (take i all) score moves → result ≡ score (get_or all i 0) → SetsValue mid now (get_or all i 0) result
     → moved ≡ move_of (get_or all i 0) (score_at_id mid (get_or all i 0)) result → more ≡ moves ++ cons_option moved []
     → Settled before now (take (i + 1) all) score more
 Settled-step before mid now all i score result moved moves more ascend within h told sets is made =
@@ -84,4 +85,4 @@ Settled-step before mid now all i score result moved moves more ascend within h 
     let all_moved = made ∙ ap (λ m. moves ++ cons_option m []) (is ∙ ap (move_of id (score_at_id mid id)) told) in
     subst (λ ids. Settled before now ids score more) (sym (take_more all i 0 within))
     (subst (Settled before now (take i all ++ id ∷ []) score) (sym all_moved)
-    (Settled-more before mid now (take i all) id score moves h (new_id all i ascend within) (subst (SetsScore mid now id) told sets)))
+    (Settled-more before mid now (take i all) id score moves h (new_id all i ascend within) (subst (SetsValue mid now id) told sets)))

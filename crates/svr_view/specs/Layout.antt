@@ -1,14 +1,13 @@
 -- Words of private clauses: what a row counts, and scores by kept values.
 use Rattle.std.specs.Prelude.{◌≡◌, ◌≤◌, ◌^◌, ◌-◌, ℕ, ◌+◌, ◌==◌, ◌&&◌, ℤ, pos, negsuc, List, [], ◌∷◌, length, slice_get}
 use Rattle.std.specs.Prelude.{false, Option, Some, None, if◌then◌else◌, Contains, IfSome}
-use Rattle.std.specs.BTreeMap.{is_at}
 use Rattle.std.specs.BTreeSet.{BTreeSet, contains}
 use Rattle.std.specs.List.{filter_map, list_any}
 use Rattle.std.specs.List.Sorted.{IsStrictlyIncreasing}
-use Rattle.std.specs.Map.{lookup}
 use Rattle.std.specs.Ordering.{nat_cmp}
 use Rattle.svr_groups.specs.Groups.{Grouped, values_at}
 use Rattle.svr_groups.specs.Values.{with_value, without_value}
+use Rattle.svr_idmap.specs.Ids.{value_at}
 use Rattle.svr_num.specs.Aggregates.{aggregate_of}
 use Rattle.svr_rows.specs.declared.change.Change.{Change}
 use Rattle.svr_rows.specs.declared.change.Change.TheVariants.{Insert, Update, Delete}
@@ -126,7 +125,7 @@ score_by schema groups row = weighted_score schema (values_by groups 0 row schem
 -- ---- kept scores
 
 abbrev pub score_at_id : List (ℕ × ℕ) → ℕ → Option ℕ
-score_at_id scores id = lookup (is_at (nat_cmp id)) scores
+score_at_id scores id = value_at scores id
 
 -- at most the greatest score
 abbrev pub IsScore : Option ℕ → Type 0
@@ -135,11 +134,7 @@ IsScore score = IfSome score (λ s. s ≤ 2 ^ 48 - 1)
 abbrev pub AreScores : List (ℕ × ℕ) → Type 0
 AreScores scores = (id : ℕ) → IsScore (score_at_id scores id)
 
--- the document with the id has this score now, and every other has its own
-abbrev pub SetsScore : List (ℕ × ℕ) → List (ℕ × ℕ) → ℕ → Option ℕ → Type 0
-SetsScore old new id score = (k : ℕ) → score_at_id new k ≡ (if id == k then score else score_at_id old k)
-
--- the same of several documents
+-- several documents have the scores that they have now, and every other has its own
 abbrev pub SetsScores : List (ℕ × ℕ) → List (ℕ × ℕ) → List ℕ → (ℕ → Option ℕ) → Type 0
 SetsScores old new ids score = (k : ℕ) → score_at_id new k ≡ (if list_any (λ id. id == k) ids then score k else score_at_id old k)
 

@@ -1,13 +1,11 @@
 -- What a view stands for, and what a change moves in it.
 use Rattle.std.specs.Prelude.{◌≡◌, ℕ, ◌==◌, List, find, map, length, slice_get, Option, Some, None, if◌then◌else◌}
-use Rattle.std.specs.BTreeMap.{is_at}
 use Rattle.std.specs.List.{All}
 use Rattle.std.specs.List.Sorted.{IsStrictlyIncreasing}
-use Rattle.std.specs.Map.{lookup}
 use Rattle.std.specs.Option.{option_eq}
-use Rattle.std.specs.Ordering.{nat_cmp}
 use Rattle.svr_groups.specs.Groups.{Grouped, values_at}
 use Rattle.svr_groups.specs.Values.{ascending_values}
+use Rattle.svr_idmap.specs.Ids.{value_at}
 use Rattle.svr_rows.specs.Kept.{IsTableRows}
 use Rattle.svr_rows.specs.Rows.{TableRows, kinds_of}
 use Rattle.svr_schema.specs.declared.component.Component.{Component}
@@ -23,7 +21,7 @@ pub record Viewed : Type 0 where
 
 -- the score of the document with an id, if there is one
 abbrev pub score_in : Viewed → ℕ → Option ℕ
-score_in v id = lookup (is_at (nat_cmp id)) v.scores
+score_in v id = value_at v.scores id
 
 -- lawful tables with the columns of a lawful schema
 pub record AreTablesOf (schema : Schema) (tables : List TableRows) : Type 0 where

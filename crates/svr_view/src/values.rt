@@ -1,19 +1,20 @@
 //! Scores by kept values.
 ghost use Rattle.std.specs.Prelude.{◌≡◌, ◌≤◌, ◌<◌, ◌^◌, ◌-◌, ◌++◌, [], length, option_map, IfOk, OnOk};
+ghost use Rattle.svr_idmap.specs.Ids.{SetsValue};
 ghost use Rattle.svr_num.specs.Aggregates.{IsValue};
 ghost use Rattle.svr_rows.specs.Rows.{HasId, row_at, rows_in};
 ghost use Rattle.std.specs.List.{cons_option, filter_map};
 ghost use Rattle.std.specs.List.Sorted.{IsStrictlyIncreasing};
 ghost use Rattle.svr_schema.specs.Lawful.{IsSchema};
-ghost use Rattle.svr_view.specs.Layout.{AreScores, IsScore, SetsScore, SetsScores, score_at_id, score_by, value_by};
+ghost use Rattle.svr_view.specs.Layout.{AreScores, IsScore, SetsScores, score_at_id, score_by, value_by};
 ghost use Rattle.svr_view.specs.View.{AreTablesOf, move_of};
 
 use crate::counted::number_at;
 use crate::score_move::ScoreMove;
 use std::alloc::Global;
-use std::collections::BTreeMap;
 use svr_edge::Memory;
 use svr_groups::Groups;
+use svr_idmap::IdMap;
 use svr_num::{DocId, Score};
 use svr_rows::{Row, Tables};
 use svr_schema::{Component, Schema};
@@ -65,27 +66,23 @@ fn score_now(schema: &Schema, groups: &Groups, tables: &Tables, id: DocId) -> Op
 
 /// Gives a document a score, or takes it out, and tells how that moves it, if it does.
 pub(crate) fn settle(
-    scores: &mut BTreeMap<DocId, Score>,
+    scores: &mut IdMap<Score>,
     id: DocId,
     score: Option<Score>,
 ) -> Result<Option<ScoreMove>, Memory>
     requires within { IsScore score }
-    requires scores { AreScores scores.old.entries }
-    ensures scores { OnOk result (SetsScore scores.old.entries scores.new.entries id score) }
-    ensures within { AreScores scores.new.entries }
-    ensures moved { IfOk result (λ moved. moved ≡ move_of id (score_at_id scores.old.entries id) score) }
+    requires scores { AreScores scores.old }
+    ensures scores { OnOk result (SetsValue scores.old scores.new id score) }
+    ensures within { AreScores scores.new }
+    ensures moved { IfOk result (λ moved. moved ≡ move_of id (score_at_id scores.old id) score) }
 {
-    let old = scores.get(&id).copied();
+    let old = scores.get(id);
     if old == score {
         return Ok(None);
     }
     match score {
-        Some(score) => {
-            scores.insert(id, score)?;
-        }
-        None => {
-            scores.remove(&id);
-        }
+        Some(score) => scores.set(id, score)?,
+        None => scores.forget(id),
     }
     Ok(Some(ScoreMove {
         id,
@@ -107,7 +104,7 @@ pub(crate) fn add_move(moves: &mut Vec<ScoreMove>, moved: Option<ScoreMove>) -> 
 /// Gives each of some documents the score that it has now, by ascending id, and tells which of them that moves.
 pub(crate) fn settle_all(
     alloc: Global,
-    scores: &mut BTreeMap<DocId, Score>,
+    scores: &mut IdMap<Score>,
     schema: &Schema,
     groups: &Groups,
     tables: &Tables,
@@ -116,12 +113,12 @@ pub(crate) fn settle_all(
     requires as_many { length groups.now ≡ length schema.now.components }
     requires tables { AreTablesOf schema.now tables.now }
     requires ascending { IsStrictlyIncreasing ids.now }
-    requires scores { AreScores scores.old.entries }
-    ensures scores { OnOk result (SetsScores scores.old.entries scores.new.entries ids.now
+    requires scores { AreScores scores.old }
+    ensures scores { OnOk result (SetsScores scores.old scores.new ids.now
         (λ id. option_map (score_by schema.now groups.now) (row_at (rows_in tables.now schema.now.text_table) id))) }
-    ensures moves { IfOk result (λ moves. moves.items ≡ filter_map (λ id. move_of id (score_at_id scores.old.entries id)
+    ensures moves { IfOk result (λ moves. moves.items ≡ filter_map (λ id. move_of id (score_at_id scores.old id)
         (option_map (score_by schema.now groups.now) (row_at (rows_in tables.now schema.now.text_table) id))) ids.now) }
-    ensures within { AreScores scores.new.entries }
+    ensures within { AreScores scores.new }
 {
     let mut moves = Vec::new(alloc);
     for id in ids {

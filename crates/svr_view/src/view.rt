@@ -10,10 +10,10 @@ use crate::counted::{counted_ids, id_changed, recount, row_after, table_changed}
 use crate::score_move::ScoreMove;
 use crate::values::{add_move, score, settle, settle_all};
 use std::alloc::Global;
-use std::collections::BTreeMap;
 use std::marker::Model;
 use svr_edge::{Items, Memory};
 use svr_groups::Groups;
+use svr_idmap::IdMap;
 use svr_num::{DocId, Score, Scores};
 use svr_rows::{Change, Row, Tables};
 use svr_schema::Schema;
@@ -23,7 +23,7 @@ use svr_schema::Schema;
 #[derive(Drop)]
 pub struct ScoreView {
     groups: Groups,
-    scores: BTreeMap<DocId, Score>,
+    scores: IdMap<Score>,
 }
 
 impl Model for ScoreView {
@@ -31,11 +31,11 @@ impl Model for ScoreView {
 
     ghost Value = { Viewed };
 
-    ghost view = { λ v. record { groups = v.groups; scores = v.scores.entries } };
+    ghost view = { λ v. record { groups = v.groups; scores = v.scores } };
 
     ghost use Rattle.svr_view.specs.Layout.{AreScores};
 
-    ghost invariant = { λ v. AreScores v.scores.entries };
+    ghost invariant = { λ v. AreScores v.scores };
 }
 
 impl ScoreView {
@@ -46,7 +46,7 @@ impl ScoreView {
     {
         Ok(ScoreView {
             groups: Groups::new(alloc, schema.components.len() as u8)?,
-            scores: BTreeMap::new(alloc),
+            scores: IdMap::new(alloc),
         })
     }
 
@@ -131,6 +131,6 @@ impl Scores for ScoreView {
     ghost score_of = { λ v id. score_in v id };
 
     fn score(&self, id: DocId) -> Option<Score> {
-        self.scores.get(&id).copied()
+        self.scores.get(id)
     }
 }

@@ -6,6 +6,6 @@ use Rattle.svr_view.proofs.values.settle_all.Given as goal
 
 abbrev pub invariant-loop-id : goal.invariant-loop-id
 invariant-loop-id l =
-    Settled l.initial.scores.entries l.scores.entries (take l.id-index l.ids)
+    Settled l.initial.scores l.scores (take l.id-index l.ids)
     (λ id. option_map (score_by l.schema l.groups) (row_at (rows_in l.tables l.schema.text_table) id)) l.moves.items
-    × AreScores l.scores.entries
+    × AreScores l.scores

@@ -6,5 +6,5 @@ pub returns : goal.returns
 returns c =
     let many : length c.in_ok-new.field-0 ≡ length c.args.schema.now.components =
     omega (arith, c.in_ok-new.ensures.as_many, c.len.ensures, c.requires.few_components) in
-    let none : c.new-2.result.entries ≡ [] = search rules in
-    StandsFor-no_rows c.args.schema.now (record { groups = c.in_ok-new.field-0; scores = c.new-2.result.entries }) many c.in_ok-new.ensures.none none
+    let none : c.new-2.result ≡ [] = search rules in
+    StandsFor-no_rows c.args.schema.now (record { groups = c.in_ok-new.field-0; scores = c.new-2.result }) many c.in_ok-new.ensures.none none

@@ -16,7 +16,7 @@ returns-clause-notes c =
       ids = c.deref.result.now;
       complete = subst (λ ks. Complete ks c.deref.result.now) c.as_slice-components.ensures
           (subst (Complete c.as_slice-components.result.now) (sym c.deref.ensures.value) c.in_ok-ids.ensures.complete);
-      notes = NotesIds-told c.args.self.now _ c.self.inside.scores.entries c.settle_all.new.scores.entries c.deref.result.now _ c.from_vec.result
+      notes = NotesIds-told c.args.self.now _ c.self.inside.scores c.settle_all.new.scores c.deref.result.now _ c.from_vec.result
           (ap (λ v. v.scores) c.self.view_is) refl (subst IsStrictlyIncreasing (sym c.deref.ensures.value) c.in_ok-ids.ensures.ascending)
           c.in_ok-moves.ensures.scores (c.from_vec.ensures ∙ c.in_ok-moves.ensures.moves);
     }

@@ -1,0 +1,6 @@
+//! Values by id.
+#![tactic(auto)]
+
+mod id_map;
+
+pub use id_map::{DENSE_IDS, IdMap};
