@@ -1,9 +1,7 @@
 pub mod Accepted
 pub mod Asked
 pub mod Followed
-pub mod Inserted
 pub mod Loaded
 pub mod Made
 pub mod Mapped
-pub mod Products
 pub mod Searched

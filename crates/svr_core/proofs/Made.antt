@@ -4,13 +4,14 @@ use Rattle.std.proofs.lemmas.Option.{slice_get-map}
 use Rattle.std.specs.List.{cons_option, filter_map}
 use Rattle.svr_rows.specs.declared.row.Row.{Row}
 use Rattle.svr_rows.specs.declared.row.Given.{Given}
-use Rattle.svr_rows.specs.Rows.{TableRows, cell_in, kinds_at, kinds_in, kinds_of, no_rows, rows_at}
+use Rattle.svr_rows.specs.Rows.{TableRows, cell_in, kinds_at, kinds_in, kinds_of, no_rows, rows_at, rows_in}
 use Rattle.svr_rows.proofs.Sums.{IsTableRows-all_no_rows}
 use Rattle.svr_schema.specs.declared.table.ColumnKind.{ColumnKind}
 use Rattle.svr_schema.specs.declared.table.Table.{Table}
 use Rattle.svr_schema.specs.declared.schema.Schema.{Schema}
 use Rattle.svr_schema.specs.Lawful.{IsSchema}
-use Rattle.svr_core.specs.Documents.{IsCatalog, documents_by_id}
+use Rattle.svr_view.specs.View.{AreTablesOf}
+use Rattle.svr_core.specs.Documents.{documents_by_id}
 use Rattle.svr_core.specs.Outcomes.{row_of}
 
 module _ {X Y : Type 0} (f : X → Option Y) where
@@ -54,11 +55,13 @@ rows_at-no_rows : (o : Option Table) → rows_at (option_map no_rows o) ≡ []
 rows_at-no_rows None = refl
 rows_at-no_rows (Some t) = refl
 
-pub IsCatalog-no_rows : (s : Schema) → IsSchema s → IsCatalog s (map no_rows s.tables) []
-IsCatalog-no_rows s lawful = record {
+pub AreTablesOf-no_rows : (s : Schema) → IsSchema s → AreTablesOf s (map no_rows s.tables)
+AreTablesOf-no_rows s lawful = record {
   lawful = lawful;
   kinds = kinds-no_rows s.tables;
   rows = IsTableRows-all_no_rows s.tables lawful.tables;
-  documents = ap (documents_by_id s) (sym (ap rows_at (slice_get-map no_rows s.tables s.text_table)
-      ∙ rows_at-no_rows (slice_get s.tables s.text_table)));
 }
+
+pub documents_by_id-no_rows : (s : Schema) → [] ≡ documents_by_id s (rows_in (map no_rows s.tables) s.text_table)
+documents_by_id-no_rows s = ap (documents_by_id s) (sym (ap rows_at (slice_get-map no_rows s.tables s.text_table)
+    ∙ rows_at-no_rows (slice_get s.tables s.text_table)))

@@ -1,9 +1,9 @@
 pub mod Answers
 pub mod Changing
 pub mod Documents
+pub mod Edits
+pub mod Keeping
 pub mod Outcomes
 pub mod Run
-pub mod Scores
 pub mod State
 pub mod Steps
-pub mod Weights

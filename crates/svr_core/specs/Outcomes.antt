@@ -1,7 +1,7 @@
 -- What comes of a request: one case for each.
-use Rattle.std.specs.Prelude.{ℕ, ℤ, ◌&&◌, Bool, true, false, not, pos, negsuc, List, [], ◌∷◌, length}
+use Rattle.std.specs.Prelude.{ℕ, ℤ, ◌&&◌, Bool, true, false, pos, negsuc, List, [], ◌∷◌, length}
 use Rattle.std.specs.Prelude.{map, nat_lt, nat_le, if◌then◌else◌, Option, Some, None, Result, Ok, Err}
-use Rattle.std.specs.List.{filter_map, list_all}
+use Rattle.std.specs.List.{filter_map}
 use Rattle.serde_json.specs.Data.{Data}
 use Rattle.svr_num.specs.declared.mode.Mode.{Mode}
 use Rattle.svr_request.specs.declared.refusal.Refusal.{Refusal}
@@ -17,9 +17,7 @@ use Rattle.svr_rows.specs.declared.change.RowRefusal.TheVariants as why
 use Rattle.svr_rows.specs.declared.row.Given.{Given}
 use Rattle.svr_rows.specs.declared.row.Row.{Row}
 use Rattle.svr_rows.specs.Changes.{changed, inserted, load_refusal, refusal_of}
-use Rattle.svr_rows.specs.Rows.{bad_column, cell_in, kinds_in, no_rows}
-use Rattle.svr_schema.specs.declared.component.Component.{Component}
-use Rattle.svr_schema.specs.declared.component.Component.TheVariants.{Own, Over}
+use Rattle.svr_rows.specs.Rows.{bad_column, cell_in, kinds_in}
 use Rattle.svr_schema.specs.declared.method.MethodSpec.{MethodSpec}
 use Rattle.svr_schema.specs.declared.method.MethodSpec.TheVariants as method
 use Rattle.svr_schema.specs.declared.schema.Schema.{Schema}
@@ -27,7 +25,7 @@ use Rattle.svr_schema.specs.Lookups.{table_at}
 use Rattle.svr_schema.specs.Rules.{schema_in}
 use Rattle.svr_tokens.specs.Tokens.{tokens_of}
 use Rattle.svr_core.specs.Answers.{answer_of}
-use Rattle.svr_core.specs.State.{Catalog, State}
+use Rattle.svr_core.specs.State.{Catalog, State, new_catalog}
 
 -- a request is refused, or answered, or it changes what is served
 pub data Outcome : Type 0 where
@@ -37,20 +35,13 @@ pub data Outcome : Type 0 where
 
 -- ---- a schema
 
-abbrev pub is_own : Component → Bool
-is_own (Own column weight) = true
-is_own (Over how table by column weight empty filter) = false
-
 abbrev pub is_plain : MethodSpec → Bool
 is_plain method.Id = true
 is_plain _ = false
 
--- rules that hold as yet: each component is of the document's own row, and the method is `id`
+-- a rule that holds as yet: the method is `id`
 abbrev pub served_so_far : Schema → Outcome
-served_so_far s =
-    if not (list_all is_own s.components) then refused (refusal.BadSchema 9)
-    else if not (is_plain s.method) then refused (refusal.BadSchema 14)
-    else changes_to (record { schema = s; tables = map no_rows s.tables })
+served_so_far s = if is_plain s.method then changes_to (new_catalog s) else refused (refusal.BadSchema 14)
 
 -- the schema that a value says, or the first rule that fails
 abbrev pub by_rules : Result Schema ℕ → Outcome

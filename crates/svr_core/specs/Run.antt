@@ -6,7 +6,7 @@ use Rattle.svr_request.specs.declared.reply.Reply.TheVariants.{Accepted, Found, 
 use Rattle.svr_request.specs.Replies.{text_of}
 use Rattle.svr_request.specs.Requests.{Submitted}
 use Rattle.svr_core.specs.Outcomes.{Outcome, refused, found, changes_to, outcome_of}
-use Rattle.svr_core.specs.State.{State}
+use Rattle.svr_core.specs.State.{Catalog, State}
 
 -- changes are numbered from 1
 abbrev pub reply_by : State → Outcome → Reply
@@ -26,6 +26,10 @@ reply_to s request = reply_by s (outcome_of s request)
 
 abbrev pub state_after : State → Submitted → State
 state_after s request = state_by s (outcome_of s request)
+
+-- the request is accepted as a change
+abbrev pub IsChange : State → Submitted → Type 0
+IsChange s request = (c : Catalog) × (outcome_of s request ≡ changes_to c)
 
 -- a request may be answered by its reply, or by want of memory, which changes nothing
 abbrev pub MayReply : State → Submitted → Reply → Type 0

@@ -1,7 +1,7 @@
 -- What is served: a schema with the rows of its tables, once it is set, and how many changes were accepted.
-use Rattle.std.specs.Prelude.{ℕ, List, Option, None}
+use Rattle.std.specs.Prelude.{ℕ, List, map, Option, None}
 use Rattle.svr_rows.specs.declared.row.Row.{Row}
-use Rattle.svr_rows.specs.Rows.{TableRows, rows_in}
+use Rattle.svr_rows.specs.Rows.{TableRows, no_rows, rows_in}
 use Rattle.svr_schema.specs.declared.schema.Schema.{Schema}
 
 pub record Catalog : Type 0 where
@@ -15,6 +15,10 @@ pub record State : Type 0 where
 -- nothing was accepted
 abbrev pub empty : State
 empty = record { catalog = None; changes = 0 }
+
+-- a schema's tables, without rows
+abbrev pub new_catalog : Schema → Catalog
+new_catalog s = record { schema = s; tables = map no_rows s.tables }
 
 -- the documents: the rows of the table that has the text column
 abbrev pub documents_in : Catalog → List Row

@@ -2,10 +2,10 @@
 #![tactic(auto)]
 
 mod catalog;
+mod contents;
 mod document;
-mod effect;
+mod plan;
 mod refusals;
-mod score;
 mod search;
 mod served;
 

@@ -5,6 +5,7 @@ ghost use Rattle.svr_tokens.specs.Tokens.{has_any_terms};
 ghost use Rattle.svr_core.specs.Answers.{matches};
 ghost use Rattle.svr_core.specs.Documents.{answer_over, hit_in};
 
+use crate::contents::Contents;
 use crate::document::Document;
 use std::alloc::Global;
 use std::collections::BTreeMap;
@@ -12,21 +13,23 @@ use svr_edge::{Items, Memory};
 use svr_num::{DocId, Hit, Mode, keep_best};
 use svr_request::Answer;
 use svr_tokens::Tokens;
+use svr_view::ScoreView;
 
 /// The hits of all documents that match, by id.
 fn hits(
     alloc: Global,
     documents: &BTreeMap<DocId, Document>,
+    scores: &ScoreView,
     query: &Tokens,
     mode: Mode,
 ) -> Result<Vec<Hit>, Memory>
     ensures { IfOk result (λ hits. hits.items
-        ≡ map hit_in (filter (λ d. matches mode d.terms query.now) (values_of documents.now.entries))) }
+        ≡ map (hit_in scores.now) (filter (λ d. matches mode d.terms query.now) (values_of documents.now.entries))) }
 {
     let hits = documents
         .values()
         .filter(|document| document.matches(mode, query))
-        .map(|document| document.hit())
+        .map(|document| document.hit(scores))
         .collect(alloc)?;
     Ok(hits)
 }
@@ -41,15 +44,17 @@ fn has_term(documents: &BTreeMap<DocId, Document>, query: &Tokens) -> bool
 /// The best `k` documents that match.
 pub fn search(
     alloc: Global,
-    documents: &BTreeMap<DocId, Document>,
+    contents: &Contents,
     query: &Tokens,
     mode: Mode,
     k: u32,
 ) -> Result<Answer, Memory>
-    ensures answer { IfOk result (λ answer. answer ≡ answer_over (values_of documents.now.entries) query.now mode k) }
+    ensures answer { IfOk result (λ answer. answer
+        ≡ answer_over contents.now.scores (values_of contents.now.documents.entries) query.now mode k) }
     ensures few { IfOk result (λ answer. length answer.hits ≤ k) }
 {
-    let mut hits = hits(alloc, documents, query, mode)?;
+    let documents = &contents.documents;
+    let mut hits = hits(alloc, documents, &contents.scores, query, mode)?;
     keep_best(&mut hits, k as usize);
     Ok(Answer {
         hits: Items::from_vec(hits),

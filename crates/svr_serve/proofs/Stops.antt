@@ -18,7 +18,7 @@ use Rattle.svr_serve.specs.Input.{ends_in_block, is_cut, request_in, requests_of
 use Rattle.svr_serve.specs.Program.{AnswersFirst, EndsInBlock, IsPrefix, SendsAll, Served, Streams, Took, TookLess, WritesPart}
 use Rattle.svr_serve.specs.declared.turn.Turn.TheVariants.{Ended, Stop}
 use Rattle.svr_serve.specs.Layout.{Ends, EndsBy, EndsCut, EndsInput, HasTurnCauses, Replies, Standing, StopsReading, StopsShort, StopsTurn}
-use Rattle.svr_serve.specs.Layout.{TurnDoes, WritesBehind, WritesFirst}
+use Rattle.svr_serve.specs.Layout.{StopsUnanswered, TurnDoes, WritesBehind, WritesFirst}
 use Rattle.svr_serve.proofs.SoFar.{Between, IsWhole, SoFar}
 use Rattle.svr_serve.proofs.Joins.{ends_in_block-join, requests_of-join, requests_of-none, whole_requests-join}
 use Rattle.svr_serve.proofs.Parts.{parts_of-none}
@@ -102,15 +102,27 @@ took_no_more (Some x) (Some y) (Some z) xs bytes most p end q few = (
 
 -- ---- the last turn
 
--- a request could be read, or the sink failed
-reads_none : (e : Ending) (old new : Standing) → StopsTurn e old new → (e ≡ Output → ⊥)
+-- no request could be read, where the sink hasn't failed and memory isn't wanting
+reads_none : (e : Ending) (old new : Standing) → StopsTurn e old new → (e ≡ Output → ⊥) → (e ≡ Memory → ⊥)
     → StopsReading e old.streams.left new.streams.left old.lines new.lines × (new.streams.taken ≡ old.streams.taken)
-reads_none e old new p other = elim p [ inl cut ↦ absurd (other cut.0) | inr none ↦ (none.0, none.1.taken) ]
+reads_none e old new p sink memory = elim p [
+  | inl cut ↦ absurd (sink cut.0)
+  | inr none ↦ elim none.0 [ inl reads ↦ (reads.0, none.1.taken) | inr undone ↦ absurd (memory undone.0) ]
+]
+
+-- a sink that failed has a reply of its own
+no_output : (old new : Standing)
+    → StopsUnanswered Output old.streams.left new.streams.left old.lines new.lines old.core new.core → ⊥
+no_output old new p = elim p [ inl reads ↦ reads.0 | inr undone ↦ cc ]
+
+-- where memory is wanting nothing more is written
+writes_none : (old new : Standing) → StopsTurn Memory old new → new.streams.taken ≡ old.streams.taken
+writes_none old new p = elim p [ inl cut ↦ absurd (cc) | inr none ↦ none.1.taken ]
 
 -- no stop is a complete end
 not_complete : (e : Ending) (old new : Standing) → StopsTurn e old new → e ≡ Complete → ⊥
 not_complete e old new p is =
-    (reads_none Complete old new (subst (λ (x : Ending). StopsTurn x old new) is p) (λ other. cc)).0
+    (reads_none Complete old new (subst (λ (x : Ending). StopsTurn x old new) is p) (λ other. cc) (λ other. cc)).0
 
 module _ (left taken : Option (List ℕ)) (old new : Standing) (s : SoFar left taken old) where
   same_written : new.streams.taken ≡ old.streams.taken → Appends taken new.streams.taken (texts s.replies)
@@ -192,13 +204,13 @@ module _ (left taken : Option (List ℕ)) (old new : Standing) (s : SoFar left t
   )
 
   stops_by : (e : Ending) → StopsTurn e old new → EndsBy e left new.streams.left taken new.streams.taken
-  stops_by Output p = elim p [ inl cut ↦ writes_part cut.1 cut.2 cut.3 cut.4 | inr none ↦ absurd none.0 ]
-  stops_by Input p = let r = reads_none Input old new p (λ is. cc) in writes_behind r.0 r.1
-  stops_by Bytes p = let r = reads_none Bytes old new p (λ is. cc) in writes_behind r.0 r.1
-  stops_by Cut p = let r = reads_none Cut old new p (λ is. cc) in cuts r.0 r.1
-  stops_by Memory p = writes_first (reads_none Memory old new p (λ is. cc)).1
-  stops_by Complete p = absurd (reads_none Complete old new p (λ is. cc)).0
-  stops_by Words p = absurd (reads_none Words old new p (λ is. cc)).0
+  stops_by Output p = elim p [ inl cut ↦ writes_part cut.1 cut.2 cut.3 cut.4 | inr none ↦ absurd (no_output old new none.0) ]
+  stops_by Input p = let r = reads_none Input old new p (λ is. cc) (λ is. cc) in writes_behind r.0 r.1
+  stops_by Bytes p = let r = reads_none Bytes old new p (λ is. cc) (λ is. cc) in writes_behind r.0 r.1
+  stops_by Cut p = let r = reads_none Cut old new p (λ is. cc) (λ is. cc) in cuts r.0 r.1
+  stops_by Memory p = writes_first (writes_none old new p)
+  stops_by Complete p = absurd (reads_none Complete old new p (λ is. cc) (λ is. cc)).0
+  stops_by Words p = absurd (reads_none Words old new p (λ is. cc) (λ is. cc)).0
 
   -- the input ended
   all_requests : (e : EndsInput old.streams.left new.streams.left old.lines new.lines) → IfSome left (λ input. requests_of input ≡ requests_of s.handed)
@@ -242,7 +254,7 @@ module _ (left taken : Option (List ℕ)) (old new : Standing) (s : SoFar left t
   took_all : (e : Ending) → StopsTurn e old new → e ≡ Bytes → taken_bytes new.lines ≡ new.lines.limit
       → Took (2 ^ 40) left new.streams.left
   took_all e p is all =
-      let r = reads_none Bytes old new (subst (λ (x : Ending). StopsTurn x old new) is p) (λ other. cc) in
+      let r = reads_none Bytes old new (subst (λ (x : Ending). StopsTurn x old new) is p) (λ other. cc) (λ other. cc) in
       let took = took_behind r.0 in
       (took.0, took.1, took.2 ∙ all ∙ r.0.limit ∙ s.limit)
 
@@ -267,9 +279,9 @@ module _ (left taken : Option (List ℕ)) (old new : Standing) (s : SoFar left t
   took_less e p by less = elim by [
     | inl complete ↦ absurd (not_complete e old new p complete)
     | inr other ↦ elim other [
-      | inl is ↦ took_cut (reads_none Cut old new (subst (λ (x : Ending). StopsTurn x old new) is p) (λ other. cc)).0
+      | inl is ↦ took_cut (reads_none Cut old new (subst (λ (x : Ending). StopsTurn x old new) is p) (λ other. cc) (λ other. cc)).0
       | inr is ↦
-          let r = reads_none Input old new (subst (λ (x : Ending). StopsTurn x old new) is p) (λ other. cc) in
+          let r = reads_none Input old new (subst (λ (x : Ending). StopsTurn x old new) is p) (λ other. cc) (λ other. cc) in
           let took = took_behind r.0 in
           (took.0, took.1, omega (arith, took.2, less is, r.0.limit, s.limit))
     ]
@@ -299,8 +311,8 @@ module _ (left taken : Option (List ℕ)) (old new : Standing) (s : SoFar left t
 module _ (start : Streams) (old new : Standing) (b : Between start old) where
   pub ends_complete : TurnDoes Ended old new → HasTurnCauses Ended old new → Ends Complete start new.streams
   ends_complete turn causes = record {
-    by = served start.left start.taken old new b.so_far turn.0 turn.1.taken;
-    sent = λ first. inl (turn.1.sent ∙ b.sent first ∙ sym turn.1.taken);
+    by = served start.left start.taken old new b.so_far turn.0 turn.2.taken;
+    sent = λ first. inl (turn.2.sent ∙ b.sent first ∙ sym turn.2.taken);
     later = omega (arith, b.writes_later, causes.writes_later);
     input = λ is. cc;
     output = λ is. cc;

@@ -2,7 +2,7 @@
 use Rattle.std.specs.Prelude.{◌≡◌, ◌⊎◌, ◌<◌, ◌≤◌, ◌+◌, ◌^◌, ℕ, true, false, List, [], ◌∷◌, ◌++◌, length}
 use Rattle.std.specs.Prelude.{Option, IfSome, Result, IsErrOf}
 use Rattle.std.specs.Io.KnownBytes.{Appends, Consumes}
-use Rattle.svr_core.specs.Run.{IsRun, MayReply, state_then, texts}
+use Rattle.svr_core.specs.Run.{IsChange, IsRun, MayReply, state_then, texts}
 use Rattle.svr_core.specs.State.{State, empty}
 use Rattle.svr_edge.specs.Causes.{Rose}
 use Rattle.svr_lines.specs.declared.lines.InputStop.{InputStop}
@@ -151,9 +151,26 @@ pub record Answers (before after : Option (List ℕ)) (old new : Reading) (core 
   pub may : MayReply core request reply
   pub state : now ≡ state_then core request reply
 
+-- a request was answered, and the text of the reply is ready
+abbrev pub PrintsAnswer : Submitted → Session → Session → Type 0
+PrintsAnswer request old new =
+    (reply : Reply) × MayReply old.core request reply × (new.core ≡ state_then old.core request reply) × (new.reply ≡ text_of reply)
+
 -- the next request was taken and answered, and the text of the reply is ready
 abbrev pub PrintsReply : Option (List ℕ) → Option (List ℕ) → Session → Session → Type 0
-PrintsReply before after old new = (reply : Reply) × Answers before after old.lines new.lines old.core new.core reply × (new.reply ≡ text_of reply)
+PrintsReply before after old new =
+    (reply : Reply) × Answers before after old.lines new.lines old.core new.core reply × (new.reply ≡ text_of reply)
+
+-- the next request was taken, which is accepted as a change, and memory was wanting to make it; of what is served nothing is said
+pub record TakesUndone (before after : Option (List ℕ)) (old new : Reading) (core : State) : Type 0 where
+  pub request : Submitted
+  pub takes : TakesRequest before after old new request
+  pub change : IsChange core request
+
+-- no request could be taken, and nothing has changed; or one that was taken couldn't be carried out
+abbrev pub StopsUnanswered : Ending → Option (List ℕ) → Option (List ℕ) → Reading → Reading → State → State → Type 0
+StopsUnanswered e before after old new core now =
+    (StopsReading e before after old new × (now ≡ core)) ⊎ ((e ≡ ending.Memory) × TakesUndone before after old new core)
 
 -- all that a turn reads or changes
 pub record Standing : Type 0 where
@@ -169,22 +186,22 @@ pub record Replies (old new : Standing) (reply : Reply) (written : List ℕ) : T
   pub answers : Answers old.streams.left new.streams.left old.lines new.lines old.core new.core reply
   pub bytes : Appends old.streams.taken new.streams.taken written
 
--- nothing was answered or written
+-- nothing was written
 pub record IsSilent (old new : Standing) : Type 0 where
-  pub core : new.core ≡ old.core
   pub taken : new.streams.taken ≡ old.streams.taken
   pub sent : new.streams.sent ≡ old.streams.sent
 
--- the sink failed, and a beginning of the reply was written; or no request could be read
+-- the sink failed, and a beginning of the reply was written; or no request was answered
 abbrev pub StopsTurn : Ending → Standing → Standing → Type 0
 StopsTurn e old new =
     ((e ≡ ending.Output) × (reply : Reply) × (front : List ℕ) × IsPrefix front (text_of reply) × Replies old new reply front)
-    ⊎ (StopsReading e old.streams.left new.streams.left old.lines new.lines × IsSilent old new)
+    ⊎ (StopsUnanswered e old.streams.left new.streams.left old.lines new.lines old.core new.core × IsSilent old new)
 
 -- a reply that was written was sent on too
 abbrev pub TurnDoes : Turn → Standing → Standing → Type 0
 TurnDoes turn.Served old new = ((reply : Reply) × Replies old new reply (text_of reply)) × (new.streams.sent ≡ new.streams.taken)
-TurnDoes turn.Ended old new = EndsInput old.streams.left new.streams.left old.lines new.lines × IsSilent old new
+TurnDoes turn.Ended old new =
+    EndsInput old.streams.left new.streams.left old.lines new.lines × (new.core ≡ old.core) × IsSilent old new
 TurnDoes (turn.Stop e) old new = StopsTurn e old new
 
 -- ---- causes

@@ -18,7 +18,7 @@ pub(crate) enum Ending {
     Input,
     /// The sink failed.
     Output,
-    /// Memory was wanting before a line could be read as a request.
+    /// Memory was wanting before a line could be read as a request, or in the middle of a change.
     Memory,
     /// As many bytes were read as may be.
     Bytes,

@@ -62,7 +62,7 @@ fn is_serve(words: &[String]) -> bool
 /// | 2 | the words aren't the program's name and `serve`; nothing is read | `{"fault":"words"}` |
 /// | 3 | the source failed | `{"fault":"input"}` |
 /// | 4 | the sink failed; the last reply may be cut | nothing |
-/// | 7 | memory was wanting before the first line, or for reading a line, which isn't answered then | `{"fault":"memory"}` |
+/// | 7 | memory was wanting at the start, to read a line, or to make an accepted change; neither is answered | `{"fault":"memory"}` |
 /// | 8 | `INPUT_BYTES` bytes were read, and no end was seen | `{"fault":"long"}` |
 ///
 /// A line without a line feed is answered at status 0 alone, where it is the last of the input. A request is whole where

@@ -1,14 +1,17 @@
-ghost use Rattle.std.specs.Prelude.{◌≡◌, ◌⊎◌, ◌+◌, ◌<◌, ◌≤◌, ◌^◌, true, false, Ok, Err, None, IfOk, OnOk, IsOk, IfSome, IfErr, IsErrOf, unwrap_or};
+ghost use Rattle.std.specs.Prelude.{◌≡◌, ◌⊎◌, ◌+◌, ◌<◌, ◌≤◌, ◌^◌, true, false, length, Ok, Err, None, unwrap_or};
+ghost use Rattle.std.specs.Prelude.{IfOk, OnOk, OnErr, IsOk, IfSome, IfErr, IsErrOf};
+ghost use Rattle.svr_core.specs.Run.{IsChange};
 ghost use Rattle.svr_lines.specs.Reading.{taken_bytes, KnowsEnd};
 ghost use Rattle.svr_request.specs.Requests.{seen_or_refused, with_block};
-ghost use Rattle.svr_serve.specs.Layout.{EndsInput, HasReadCauses, HasTurnCauses, PrintsReply, StopsBlock, StopsReading, TakesNext, TakesRequest, TakesWholeBlock, TurnDoes, standing};
+ghost use Rattle.svr_serve.specs.Layout.{EndsInput, HasReadCauses, HasTurnCauses, PrintsAnswer, PrintsReply, TurnDoes, standing};
+ghost use Rattle.svr_serve.specs.Layout.{StopsBlock, StopsReading, StopsUnanswered, TakesNext, TakesRequest, TakesWholeBlock};
 ghost use Rattle.svr_serve.specs.Program.{streams};
 
 use crate::ending::Ending;
 use crate::output::send;
 use crate::session::Session;
 use std::alloc::Global;
-use svr_edge::{Failed, Sink, Source};
+use svr_edge::{Failed, Memory, Sink, Source};
 use svr_lines::{BlockEnd, Lines, Piece};
 use svr_request::{Asked, Refusal, Request, print_reply, read_request};
 
@@ -86,6 +89,25 @@ fn take_request<S: Source>(
     Ok(Some(asked.request))
 }
 
+/// Answers a request that was taken, with its block, and prints the reply.
+fn print_answer(
+    alloc: Global,
+    session: &mut Session,
+    request: Result<Request, Refusal>,
+) -> Result<(), Memory>
+    requires changes { session.old.core.changes + 1 < 2 ^ 64 }
+    requires few { length session.old.lines.block ≤ 8388608 }
+    ensures reply { OnOk result (PrintsAnswer (with_block (seen_or_refused request) session.old.lines.block) session.old session.new) }
+    ensures change { OnErr result (IsChange session.old.core (with_block (seen_or_refused request) session.old.lines.block)) }
+    ensures lines { session.new.lines ≡ session.old.lines }
+{
+    let reply = session
+        .core
+        .answer(alloc, request, session.lines.block_bytes())?;
+    print_reply(&reply, &mut session.reply);
+    Ok(())
+}
+
 /// Takes the next request, answers it and prints the reply. False at the end of the input.
 fn print_next<S: Source>(
     alloc: Global,
@@ -97,17 +119,13 @@ fn print_next<S: Source>(
     ensures reply { result ≡ Ok true → PrintsReply (S.left input.old) (S.left input.new) session.old session.new }
     ensures end { result ≡ Ok false → EndsInput (S.left input.old) (S.left input.new) session.old.lines session.new.lines
         × (session.new.core ≡ session.old.core) }
-    ensures stop { IfErr result (λ ending.
-        StopsReading ending (S.left input.old) (S.left input.new) session.old.lines session.new.lines
-        × (session.new.core ≡ session.old.core)) }
+    ensures stop { IfErr result (λ ending. StopsUnanswered ending
+        (S.left input.old) (S.left input.new) session.old.lines session.new.lines session.old.core session.new.core) }
     ensures causes { HasReadCauses (S.faults input.old) (S.faults input.new) session.new.lines result }
 {
     match take_request(alloc, &mut session.lines, input) {
         Ok(Some(request)) => {
-            let reply = session
-                .core
-                .answer(alloc, request, session.lines.block_bytes());
-            print_reply(&reply, &mut session.reply);
+            print_answer(alloc, session, request)?;
             Ok(true)
         }
         Ok(None) => Ok(false),

@@ -13,4 +13,4 @@ returns-clause-kinds c =
     ∙ slice_get-get_or c.as_slice.result.now c.args.table table within
     ∙ ap Some (sym c.index-as_slice-table.is) in
     sym (ap (λ s. kinds_in s.tables c.args.table) (sym c.self.view_is)
-    ∙ kinds_in-is c.self.inside.tables c.self.inside.schema.tables c.args.table table c.self.invariant.kinds there)
+    ∙ kinds_in-is c.self.inside.contents.tables c.self.inside.schema.tables c.args.table table c.self.invariant.tables.kinds there)

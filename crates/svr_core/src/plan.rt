@@ -1,0 +1,24 @@
+use svr_edge::Items;
+use svr_request::Answer;
+use svr_rows::{Change, Row};
+use svr_schema::Schema;
+
+/// What a request that isn't refused comes to. Making a plan changes nothing.
+#[derive(Drop)]
+pub enum Plan {
+    /// The answer to a search.
+    Answer(Answer),
+    /// What is to be changed.
+    Edit(Edit),
+}
+
+/// A change of what is served.
+#[derive(Drop)]
+pub enum Edit {
+    /// Sets the schema.
+    Schema(Schema),
+    /// Changes one row.
+    Change(Change),
+    /// Adds rows to a table, one after the other.
+    Load { table: u8, rows: Items<Row> },
+}
