@@ -1,8 +1,10 @@
 -- A table's map with each row at its id, before and after a change.
 use Rattle.std.proofs.Common.{◌≡◌, ℕ, ◌<◌, length, false, List, [], ◌∷◌, is_some, refl, sym, ap, ◌∙◌, subst, arith}
+use Rattle.std.proofs.Common.{Bor, None, Option, Some}
+use Rattle.std.specs.Option.{option_copied}
 use Rattle.std.specs.Ordering.{nat_cmp}
 use Rattle.std.specs.List.Sorted.{IsStrictlySortedBy}
-use Rattle.std.specs.Map.{lookup, keys_of, values_of, remove_entry}
+use Rattle.std.specs.Map.{lookup, values_of, remove_entry}
 use Rattle.std.specs.BTreeMap.{is_at, insert_entry}
 use Rattle.svr_schema.specs.declared.table.ColumnKind.{ColumnKind}
 use Rattle.svr_rows.specs.declared.row.Row.{Row}
@@ -52,16 +54,21 @@ module _ (kinds : List ColumnKind) (entries : List (ℕ × Row)) (kept : IsKept 
       IsKept-from now (without_row (values_of entries) id) (e ∙ remove_entry-kept id)
       (IsTableRows-taken (kept_rows kinds entries) id kept.rows)
 
-pub IsKept-none : (kinds : List ColumnKind) (entries : List (ℕ × Row)) → entries ≡ [] → IsColumns kinds
-    → IsStrictlySortedBy nat_cmp (keys_of entries) → IsKept kinds entries
-IsKept-none kinds [] e columns sorted = record {
+pub IsKept-none : (kinds : List ColumnKind) (entries : List (ℕ × Row)) → entries ≡ [] → IsColumns kinds → IsKept kinds entries
+unfolding IsStrictlySortedBy
+IsKept-none kinds [] e columns = record {
   keyed = refl;
   rows = record {
     columns = columns;
-    ascending = sorted;
+    ascending = tt;
     lawful = λ k d h.
         absurd (omega (arith, h));
     few = omega arith;
   };
 }
-IsKept-none kinds (x ∷ entries) e columns sorted = absurd (cc)
+IsKept-none kinds (x ∷ entries) e columns = absurd (cc)
+
+-- what is found behind a reference is found
+pub is_some-copied : (found : Option (Bor Row)) → is_some found ≡ is_some (option_copied found)
+is_some-copied None = refl
+is_some-copied (Some row) = refl

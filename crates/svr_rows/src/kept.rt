@@ -9,9 +9,9 @@ use crate::columns::{bad_cell, long_text};
 use crate::row::Row;
 use crate::tables::TABLE_ROWS;
 use std::alloc::Global;
-use std::collections::BTreeMap;
 use std::marker::Model;
 use svr_edge::Memory;
+use svr_idmap::IdMap;
 use svr_num::DocId;
 use svr_schema::{ColumnKind, Table};
 
@@ -19,7 +19,7 @@ use svr_schema::{ColumnKind, Table};
 #[derive(Drop)]
 pub struct KeptTable {
     kinds: Vec<ColumnKind>,
-    rows: BTreeMap<DocId, Row>,
+    rows: IdMap<Row>,
 }
 
 impl Model for KeptTable {
@@ -29,9 +29,9 @@ impl Model for KeptTable {
 
     ghost use Rattle.svr_rows.specs.Kept.{IsKept, kept_rows};
 
-    ghost view = { λ t. kept_rows t.kinds.items t.rows.entries };
+    ghost view = { λ t. kept_rows t.kinds.items t.rows };
 
-    ghost invariant = { λ t. IsKept t.kinds.items t.rows.entries };
+    ghost invariant = { λ t. IsKept t.kinds.items t.rows };
 }
 
 fn kinds(alloc: Global, table: &Table) -> Result<Vec<ColumnKind>, Memory>
@@ -54,20 +54,20 @@ impl KeptTable {
     {
         Ok(KeptTable {
             kinds: kinds(alloc, table)?,
-            rows: BTreeMap::new(alloc),
+            rows: IdMap::new(alloc),
         })
     }
 
     pub fn row(&self, id: DocId) -> Option<&Row>
         ensures { option_map (λ row. row.now) result ≡ row_at self.now.rows id }
     {
-        self.rows.get(&id)
+        self.rows.get(id)
     }
 
     pub fn has(&self, id: DocId) -> bool
         ensures { result ≡ has_row self.now.rows id }
     {
-        self.rows.contains_key(&id)
+        self.rows.get(id).is_some()
     }
 
     pub fn len(&self) -> usize
@@ -124,6 +124,6 @@ impl KeptTable {
         ensures changed { self.new ≡ with_rows_of self.old (without_row self.old.rows id) }
         ensures before { result ≡ row_at self.old.rows id }
     {
-        self.rows.remove(&id)
+        self.rows.remove(id)
     }
 }

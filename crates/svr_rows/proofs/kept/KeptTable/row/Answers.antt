@@ -5,5 +5,5 @@ use Rattle.svr_rows.proofs.kept.KeptTable.row.Goals as goal
 
 pub returns : goal.returns
 returns c =
-    c.get.ensures.value ∙ lookup-kept c.self.inside.kinds.items c.self.inside.rows.entries c.self.invariant c.args.id
+    c.get.ensures ∙ lookup-kept c.self.inside.kinds.items c.self.inside.rows c.self.invariant c.args.id
     ∙ ap (λ t. row_at t.rows c.args.id) c.self.view_is
