@@ -30,7 +30,7 @@ all-with_key P key [] p all = (p, tt)
 all-with_key P key (k ∷ ks) p all =
     let more = all-with_key P key ks p all.1 in
     cond_both (nat_lt k key) _ _ (AllByRecursion P) (λ _. (p, all))
-        (λ _. cond_both (key == k) _ _ (AllByRecursion P) (λ _. all) (λ _. (all.0, more)))
+    (λ _. cond_both (key == k) _ _ (AllByRecursion P) (λ _. all) (λ _. (all.0, more)))
 
 lower : (k key : ℕ) (ks : List ℕ) → k < key → AllByRecursion (λ later. later < k) ks → AllByRecursion (λ later. later < key) ks
 lower k key ks lt = weaker (λ later. later < k) (λ later. later < key) ks (λ n h. omega arith)
@@ -113,7 +113,7 @@ under_term l term d there has =
         ∙ there (λ e. is_held l term e && (d.entry.key == e.entry.key)) (and_from _ _ (and_from _ _ has e) eq_itself))
     by false e = or_left _ _
         (any-weaker (same_pair (listed_at d)) (λ pair. d.entry.key == pair.key) (posted l term) (same_key d.entry.key d.document.id)
-            (is_posted _ _ e))
+        (is_posted _ _ e))
 
 pub has_one : (m : Mode) (term : List ℕ) (terms : List (List ℕ)) (d : Document) → matches m (term ∷ terms) d ≡ true
     → list_any (has_term d) (term ∷ terms) ≡ true
@@ -142,13 +142,13 @@ hits_of_documents : (score : ℕ → Option ℕ) (test : Document → Bool) (ls 
 hits_of_documents score test [] all = refl
 hits_of_documents score test (d ∷ ds) all =
     by (test d.document) (filter (λ e. test e.document) ds) (filter test (map (λ (e : Listed). e.document) ds))
-        (hits_of_documents score test ds all.1)
+    (hits_of_documents score test ds all.1)
   where
     by : (b : Bool) (xs : List Listed) (ys : List Document) → hits_of score (map (λ (e : Listed). e.document.id) xs) ≡ map hit_of ys
         → hits_of score (map (λ (e : Listed). e.document.id) (cond b (d ∷ xs) xs)) ≡ map hit_of (cond b (d.document ∷ ys) ys)
     by true xs ys e =
         ap (λ (o : Option ℕ). cons_option (option_map (λ s. record { id = d.document.id; score = s }) o)
-            (hits_of score (map (λ (e : Listed). e.document.id) xs))) all.0 ∙ ap (λ (l : List Hit). hit_of d.document ∷ l) e
+        (hits_of score (map (λ (e : Listed). e.document.id) xs))) all.0 ∙ ap (λ (l : List Hit). hit_of d.document ∷ l) e
     by false xs ys e = e
 
 scored : (tokens : List ℕ → List (List ℕ)) (l : Listing) → IsListing tokens l
@@ -156,7 +156,7 @@ scored : (tokens : List ℕ → List (List ℕ)) (l : Listing) → IsListing tok
 scored tokens l is =
     documents_all (λ d. score_in (documents_of l) d.id ≡ Some d.score) l.documents
     (weaker _ _ (documents_of l) (λ d e. ap (option_map (λ (d : Document). d.score)) e)
-        (at_itself (documents_of l) is.documents.ascend))
+    (at_itself (documents_of l) is.documents.ascend))
 
 -- the best of the groups of a query are the best of the documents that match: the listing does not count
 pub answer-of_groups : (tokens : List ℕ → List (List ℕ)) (l : Listing) → IsListing tokens l
@@ -165,7 +165,7 @@ pub answer-of_groups : (tokens : List ℕ → List (List ℕ)) (l : Listing) →
     ≡ best_hits k (map hit_of (filter (matches m (term ∷ terms)) (documents_of l)))
 answer-of_groups tokens l is k m term terms =
     best-of_groups k (score_in (documents_of l)) (λ d. matches m (term ∷ terms) d.document) l.documents (keys l (term ∷ terms))
-        (key_there l m term terms)
+    (key_there l m term terms)
     ∙ ap (best_hits k) (hits_of_documents (score_in (documents_of l)) (matches m (term ∷ terms)) l.documents (scored tokens l is))
 
 -- so what a search answers over the groups is the answer over the documents

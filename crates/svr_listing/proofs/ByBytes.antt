@@ -65,8 +65,8 @@ pub keys_by-is : (read : PageRef → List Pair) (l : Listing) → HoldsPosted re
     → keys_by read l terms ≡ keys l terms
 keys_by-is read l holds order terms =
     ap (λ (pairs : List ℕ → List Pair). descending
-        (flat_map (λ term. map (λ (pair : Pair). pair.key) (pairs term ++ held l term)) terms))
-            (fun_ext (held_bytes read l holds order))
+    (flat_map (λ term. map (λ (pair : Pair). pair.key) (pairs term ++ held l term)) terms))
+    (fun_ext (held_bytes read l holds order))
 
 pub groups_by_bytes-is : (read : PageRef → List Pair) (l : Listing) → HoldsPosted read l
     → ((term : List ℕ) → AreInOrder (pages_of l.lists term)) → (terms : List (List ℕ)) (m : Mode)

@@ -73,6 +73,6 @@ bounded tokens l law is = record {
       rw (find-document l.documents id)
       (bounded_at l.rules.bound (find (λ d. d.document.id == id) l.documents)
       (λ d e. (found (λ d. d.document.score ≤ l.rules.bound d.entry.key) (λ d. d.document.id == id) l.documents d
-          (below_bound tokens l law is) e).0) key may);
+      (below_bound tokens l law is) e).0) key may);
   rise = law.bounds_rise;
 }

@@ -26,8 +26,12 @@ reached (x ∷ xs) zero b score up at le =
     let same : x ≡ b = cc in
     omega (arith, sum_by-cons (λ bound. cond (nat_le bound score) 1 0) x xs, counted x score (omega arith))
 reached (x ∷ xs) (suc i) b score up at le =
-    omega (arith, sum_by-cons (λ bound. cond (nat_le bound score) 1 0) x xs, counted x score (omega (arith, above_at x xs i b up.0 at)),
-        reached xs i b score up.1 at le)
+    omega (
+      arith,
+      sum_by-cons (λ bound. cond (nat_le bound score) 1 0) x xs,
+      counted x score (omega (arith, above_at x xs i b up.0 at)),
+      reached xs i b score up.1 at le,
+    )
 
 abbrev below : Option ℕ → ℕ
 below o = option_map_or (λ bound. bound - 1) o greatest
@@ -114,8 +118,12 @@ pub bounds_of-AreBounds : (scores : List ℕ) (ratio min_docs : ℕ) → AllByRe
     → AreBounds (bounds_of scores ratio min_docs)
 bounds_of-AreBounds scores ratio min_docs low =
     let rest = later scores ratio min_docs 63 0 low in
-    record { later = bounds_after scores ratio min_docs 63 0; from_zero = refl; rise = (rest.above, rest.rise);
-        scores = (omega arith, rest.scores) }
+    record {
+      later = bounds_after scores ratio min_docs 63 0;
+      from_zero = refl;
+      rise = (rest.above, rest.rise);
+      scores = (omega arith, rest.scores);
+    }
 
 -- before the first publish there is one
 pub one_bound : AreBounds (0 ∷ [])

@@ -1,14 +1,14 @@
 -- The steps of the plain program.
-use Rattle.std.proofs.Common.{◌≡◌, ◌≢◌, ℕ, zero, suc, ◌+◌, ◌<◌, ◌≤◌, ◌==◌, ◌^◌, Bool, true, false, cond, List, [], ◌∷◌, ◌++◌, length}
+use Rattle.std.proofs.Common.{◌≡◌, ◌≢◌, ℕ, zero, suc, ◌+◌, ◌<◌, ◌==◌, ◌^◌, Bool, true, false, cond, List, [], ◌∷◌, ◌++◌, length}
 use Rattle.std.proofs.Common.{get_or}
-use Rattle.std.proofs.Common.{drop, map, take, Option, None, refl, ap, sym, ◌∙◌, arith, nat_lt}
+use Rattle.std.proofs.Common.{map, take, Option, None, refl, ap, sym, ◌∙◌, arith, nat_lt}
 use Rattle.std.specs.List.{All, AllByRecursion, IsFirstAndRest, flat_map, insert, prefix_len, slice_get}
 use Rattle.std.proofs.lemmas.Bool.Decides.{nat_tests}
 use Rattle.std.proofs.lemmas.List.{take_more}
 use Rattle.std.proofs.lemmas.List.Elements.{All-append}
 use Rattle.svr_num.specs.declared.hit.Hit.{Hit}
-use Rattle.svr_listing.specs.Groups.{Group, IsOrdered, found, hits_of, ids_in}
-use Rattle.svr_listing.specs.Joined.{either, keys_in, with_id}
+use Rattle.svr_listing.specs.Groups.{Group, IsOrdered, hits_of, ids_in}
+use Rattle.svr_listing.specs.Joined.{keys_in, with_id}
 use Rattle.svr_listing.specs.Layout.{with_keys}
 use Rattle.svr_listing.specs.Listing.{descending, with_key}
 use Rattle.svr_listing.specs.Visits.{stops, visited}

@@ -127,4 +127,4 @@ pub in_page_order-in_order : (ps : List Pair) → Differ ps → PairsInOrder (in
 in_page_order-in_order [] differ = tt
 in_page_order-in_order (p ∷ ps) differ =
     order-with_pair p (in_page_order ps) (all-in_page_order (λ q. (p.id == q.id) ≡ false) ps differ.0)
-        (in_page_order-in_order ps differ.1)
+    (in_page_order-in_order ps differ.1)

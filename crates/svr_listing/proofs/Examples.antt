@@ -92,7 +92,7 @@ then_hits = refl
 abbrev tied : Served
 tied =
     after (after (nothing_listed (threshold_rules 3 2)) (change (doc 3 10 (a ∷ []) ∷ doc 9 15 (a ∷ []) ∷ [])))
-        (change (doc 3 15 (a ∷ []) ∷ doc 9 15 (a ∷ []) ∷ []))
+    (change (doc 3 15 (a ∷ []) ∷ doc 9 15 (a ∷ []) ∷ []))
 
 tied_hits : hits tied (a ∷ []) 1 ≡ hit 3 15 ∷ []
 unfolding ranked with_hit
@@ -161,7 +161,7 @@ anew_there = refl
 abbrev edited : Served
 edited =
     after (after_all (after start (change (doc 1 5 (a ∷ c ∷ []) ∷ []))) (merged (doc 1 5 (a ∷ c ∷ []) ∷ [])))
-        (change (doc 1 5 (b ∷ c ∷ []) ∷ []))
+    (change (doc 1 5 (b ∷ c ∷ []) ∷ []))
 
 edited_unmoved : entry_of edited.listing.documents 1 ≡ Some (record { key = 0; moved = false })
 unfolding bounds_after cut pages_with with_terms

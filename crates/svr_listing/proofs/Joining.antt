@@ -116,7 +116,7 @@ ids_at-is docs p ks key have = ids_at-groups_by docs p ks key ∙ by (list_any (
     by false e = sym (none_match docs p key (weaker _ _ docs (λ d h. fails _ (λ both.
         let parts = and_parts _ _ both in
         let there : list_any (λ k. key == k) ks ≡ true = subst (λ (n : ℕ). list_any (λ k. n == k) ks ≡ true)
-            (eqb-true d.entry.key key parts.0) (h parts.1) in
+        (eqb-true d.entry.key key parts.0) (h parts.1) in
         (cc))) have))
 
 -- ---- all and any, at one key
@@ -142,9 +142,11 @@ filter_ids f p (d ∷ ds) = by (p d) (f d.document.id) refl (filter p ds) (filte
 listed_itself : (ls : List Listed) → Ascends (map (λ d. d.document) ls)
     → AllByRecursion (λ d. find (λ e. e.document.id == d.document.id) ls ≡ Some d) ls
 listed_itself [] up = tt
-listed_itself (d ∷ ds) up =
-    (rw (itself d.document.id) refl, weaker _ _ ds (λ e h. rw h.0 h.1)
-        (both (λ e. (d.document.id == e.document.id) ≡ false) _ ds (away ds up.0) (listed_itself ds up.1)))
+listed_itself (d ∷ ds) up = (
+  rw (itself d.document.id) refl,
+  weaker _ _ ds (λ e h. rw h.0 h.1)
+      (both (λ e. (d.document.id == e.document.id) ≡ false) _ ds (away ds up.0) (listed_itself ds up.1)),
+)
   where
     away : (xs : List Listed) → AllByRecursion (λ (later : Document). d.document.id < later.id) (map (λ (x : Listed). x.document) xs)
         → AllByRecursion (λ e. (d.document.id == e.document.id) ≡ false) xs
@@ -159,7 +161,7 @@ is_in-is q docs up =
     any-map (λ other. other == d.document.id) (λ (e : Listed). e.document.id) (filter q docs)
     ∙ any-filter (λ e. e.document.id == d.document.id) q docs
     ∙ only_at (λ e. q e && (e.document.id == d.document.id)) d.document.id
-        (λ e away. ap (λ b. q e && b) away ∙ false-and (q e)) docs up d at
+    (λ e away. ap (λ b. q e && b) away ∙ false-and (q e)) docs up d at
     ∙ ap (λ b. q d && b) (itself d.document.id) ∙ true-and (q d))
     (listed_itself docs up)
 
@@ -186,7 +188,7 @@ all-with_id P id [] p all = (p, tt)
 all-with_id P id (x ∷ xs) p all =
     let more = all-with_id P id xs p all.1 in
     cond_both (nat_lt id x) _ _ (AllByRecursion P) (λ _. (p, all))
-        (λ _. cond_both (id == x) _ _ (AllByRecursion P) (λ _. all) (λ _. (all.0, more)))
+    (λ _. cond_both (id == x) _ _ (AllByRecursion P) (λ _. all) (λ _. (all.0, more)))
 
 all-either : (P : ℕ → Type 0) (xs ys : List ℕ) → AllByRecursion P xs → AllByRecursion P ys → AllByRecursion P (either xs ys)
 all-either P [] ys ax ay = ay
@@ -216,7 +218,7 @@ higher x p [] all = tt
 higher x p (d ∷ ds) all =
     let more = higher x p ds all.1 in
     cond_both (p d) (d ∷ filter p ds) (filter p ds) (λ l. AllByRecursion (λ id. x < id) (map (λ (e : Listed). e.document.id) l))
-        (λ _. (all.0, more)) (λ _. more)
+    (λ _. (all.0, more)) (λ _. more)
 
 either_match : (p q : Listed → Bool) (docs : List Listed) → Ascends (map (λ d. d.document) docs)
     → either (map (λ (d : Listed). d.document.id) (filter p docs)) (map (λ (d : Listed). d.document.id) (filter q docs))
@@ -224,7 +226,7 @@ either_match : (p q : Listed → Bool) (docs : List Listed) → Ascends (map (λ
 either_match p q [] up = refl
 either_match p q (d ∷ ds) up =
     by (p d) (q d) (map (λ (e : Listed). e.document.id) (filter p ds)) (map (λ (e : Listed). e.document.id) (filter q ds)) (filter p ds)
-        (filter q ds) (filter (λ e. p e || q e) ds)
+    (filter q ds) (filter (λ e. p e || q e) ds)
     refl refl (higher d.document.id p ds up.0) (higher d.document.id q ds up.0) (either_match p q ds up.1)
   where
     by : (b c : Bool) (ms ns : List ℕ) (ps qs rs : List Listed) → map (λ (e : Listed). e.document.id) ps ≡ ms
@@ -248,7 +250,7 @@ one_matches : (docs : List Listed) → Ascends (map (λ d. d.document) docs) →
 one_matches docs up s q key =
     either_match (λ d. (d.entry.key == key) && s d) (λ d. (d.entry.key == key) && q d) docs up
     ∙ ap (λ (t : Listed → Bool). map (λ (d : Listed). d.document.id) (filter t docs))
-        (fun_ext (λ d. one_of_both (d.entry.key == key) (s d) (q d)))
+    (fun_ext (λ d. one_of_both (d.entry.key == key) (s d) (q d)))
 
 -- ---- the groups of terms
 
@@ -264,7 +266,7 @@ module _ (docs : List Listed) (up : Ascends (map (λ (d : Listed). d.document) d
       ∙ ap (λ (t : Listed → Bool). matching_at docs t key) (fun_ext (λ d. sym (true-and (stands term d))))
   common-is key term (other ∷ terms) =
       ap₂ (λ (xs ys : List ℕ). filter (λ id. is_in id xs) ys) (common-is key other terms)
-          (ids_at-is docs (stands term) (descending (ks term)) key (have term))
+      (ids_at-is docs (stands term) (descending (ks term)) key (have term))
       ∙ both_match docs up (stands term) (λ d. list_all (λ t. stands t d) (other ∷ terms)) key
 
   any-is : (key : ℕ) (terms : List (List ℕ)) → any_at key (lists_of terms)
@@ -295,16 +297,16 @@ module _ (docs : List Listed) (up : Ascends (map (λ (d : Listed). d.document) d
 
   pub all-joined : (term : List ℕ) (terms : List (List ℕ))
       → groups_in_all (lists_of (term ∷ terms)) ≡ groups_by docs (λ d. list_all (λ t. stands t d) (term ∷ terms))
-          (descending (flat_map ks (term ∷ terms)))
+      (descending (flat_map ks (term ∷ terms)))
   all-joined term terms =
       ap₂ (λ (f : ℕ → List ℕ) (keys : List ℕ). map (λ key. record { key = key; ids = f key }) keys)
-          (fun_ext (λ key. common-is key term terms)) (keys-is (term ∷ terms))
+      (fun_ext (λ key. common-is key term terms)) (keys-is (term ∷ terms))
 
   pub any-joined : (terms : List (List ℕ)) → groups_in_any (lists_of terms)
       ≡ groups_by docs (λ d. list_any (λ t. stands t d) terms) (descending (flat_map ks terms))
   any-joined terms =
       ap₂ (λ (f : ℕ → List ℕ) (keys : List ℕ). map (λ key. record { key = key; ids = f key }) keys) (fun_ext (λ key. any-is key terms))
-          (keys-is terms)
+      (keys-is terms)
 
 -- ---- by the bytes
 
@@ -332,7 +334,7 @@ stands_key read l term =
         ∙ there (λ x. is_held l term x && (d.entry.key == x.entry.key)) (and_from _ _ e (itself d.entry.key)))
     by d there false e stands = or_left _ _
         (any-weaker (same_pair (listed_at d)) (λ pair. d.entry.key == pair.key) (pairs_by read (pages_of l.lists term))
-            (same_key d.entry.key d.document.id)
+        (same_key d.entry.key d.document.id)
         (and_parts _ _ (and_parts _ _ stands).1).0)
 
 one_term : (read : PageRef → List Pair) (l : Listing) (term : List ℕ) → keys_by read l (term ∷ []) ≡ descending (keys_under read l term)
@@ -340,10 +342,10 @@ one_term read l term = ap descending (append-nil (keys_under read l term))
 
 lists_are : (read : PageRef → List Pair) (l : Listing) (terms : List (List ℕ))
     → map (term_groups read l) terms ≡ map (λ term. groups_by l.documents (stands_by read l term)
-        (descending (keys_under read l term))) terms
+    (descending (keys_under read l term))) terms
 lists_are read l terms =
     ap (λ (f : List ℕ → List Group). map f terms) (fun_ext
-        (λ term. ap (groups_by l.documents (stands_by read l term)) (one_term read l term)))
+    (λ term. ap (groups_by l.documents (stands_by read l term)) (one_term read l term)))
 
 -- the groups of all terms' lists are the groups of the query
 pub all-joined_by_bytes : (read : PageRef → List Pair) (l : Listing) → Ascends (documents_of l)

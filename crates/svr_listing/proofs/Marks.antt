@@ -19,10 +19,10 @@ by_marks has false there told = refl
 -- a document stands under a term by the bytes where it is held, or is unmoved and there and not removed
 pub stands_by-marks : (read : PageRef → List Pair) (l : Listing) (term : List ℕ) (d : Listed)
     → stands_by read l term d ≡ (is_held l term d ||
-        (not d.entry.moved && (has_pair (listed_at d) (pairs_by read (pages_of l.lists term)) && not (is_removed l term d))))
+    (not d.entry.moved && (has_pair (listed_at d) (pairs_by read (pages_of l.lists term)) && not (is_removed l term d))))
 stands_by-marks read l term d =
     by_marks (has_term d.document term) d.entry.moved (has_pair (listed_at d) (posted l term))
-        (has_pair (listed_at d) (pairs_by read (pages_of l.lists term)))
+    (has_pair (listed_at d) (pairs_by read (pages_of l.lists term)))
 
 is_posted : (has moved there : Bool) → moved ≡ false
     → there ≡ ((has && not (has && (moved || not there))) || (not moved && (there && not has)))
@@ -43,7 +43,7 @@ pub removed-published : (tokens : List ℕ → List (List ℕ)) (l : Listing) (m
     → AllByRecursion (λ d. (term : List ℕ) → is_removed (published l m) term (published_one m d) ≡ false) l.documents
 removed-published tokens l m is merge none =
     weaker _ _ l.documents (λ d there term. by d (new_key m d.document.id) term (λ new e. there new e term))
-        (posted-published tokens l m is merge none)
+    (posted-published tokens l m is merge none)
   where
     not_both : (has there : Bool) → there ≡ has → (true && (there && not has)) ≡ false
     not_both true true e = refl

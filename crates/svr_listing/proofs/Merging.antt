@@ -29,7 +29,7 @@ pub new_key-begin : (rules : Rules) (ds : List Document) (id : ℕ)
 new_key-begin rules [] id = refl
 new_key-begin rules (d ∷ ds) id =
     by (d.id == id) (find (λ pair. pair.id == id) (map (λ (e : Document). record { key = rules.key e.score; id = e.id }) ds))
-        (document_at ds id) (new_key-begin rules ds id)
+    (document_at ds id) (new_key-begin rules ds id)
   where
     by : (b : Bool) (x : Option Pair) (y : Option Document)
         → option_map (λ (p : Pair). p.key) x ≡ option_map (λ (e : Document). rules.key e.score) y
@@ -110,7 +110,7 @@ was_there tokens before now m old is id d new at e =
     let was = same_before (document_at before id) d (sym (ap (is_same (document_at before id)) at) ∙ kept.1) in
     let terms_now : d.terms ≡ tokens d.text = (found (λ e. e.terms ≡ tokens e.text) (λ e. e.id == id) now d is.terms at).0 in
     let terms_old : was.0.terms ≡ tokens was.0.text =
-        (found (λ e. e.terms ≡ tokens e.text) (λ e. e.id == id) before was.0 old.terms was.1).0 in
+    (found (λ e. e.terms ≡ tokens e.text) (λ e. e.id == id) before was.0 old.terms was.1).0 in
     record {
       document = was.0;
       there = was.1;
@@ -182,12 +182,12 @@ new_there : (stands : Listed → Bool) (l : Listing) (m : Merge) (term : List �
     → (key : ℕ) → has_pair (record { key = key; id = d.id }) (new_pairs stands l m) ≡ ((key == new) && has_term d term)
 new_there stands l m term means up id d new at e key =
     let here = some_of (λ (x : Listed). x.document) (find (λ x. x.document.id == id) l.documents) d
-        (sym (find-document l.documents id) ∙ at) in
+    (sym (find-document l.documents id) ∙ at) in
     let place : d.id ≡ id = id_found (documents_of l) id d at in
     let found_new : new_key m d.id ≡ Some new = ap (new_key m) place ∙ e in
     any-in_page_order (same_pair (record { key = key; id = d.id })) (filter_map (new_pair m) (ids_under stands l))
     ∙ ap (has_pair (record { key = key; id = d.id }))
-        (filter_map-map (new_pair m) (λ (x : Listed). x.document.id) (filter stands l.documents))
+    (filter_map-map (new_pair m) (λ (x : Listed). x.document.id) (filter stands l.documents))
     ∙ any-filter_map (record { key = key; id = d.id }) (λ x. new_pair m x.document.id) (filter stands l.documents)
     ∙ any-filter (λ x. passes_new (record { key = key; id = d.id }) (new_pair m x.document.id)) stands l.documents
     ∙ only_at (λ x. stands x && passes_new (record { key = key; id = d.id }) (new_pair m x.document.id)) id
@@ -197,7 +197,7 @@ new_there stands l m term means up id d new at e key =
     ∙ ap (λ b. b && passes_new (record { key = key; id = d.id }) (new_pair m here.0.document.id)) (means here.0)
     ∙ ap (λ (x : Document). has_term x term && passes_new (record { key = key; id = d.id }) (new_pair m x.id)) here.2
     ∙ ap (λ (o : Option ℕ). has_term d term && passes_new (record { key = key; id = d.id })
-        (option_map (λ k. record { key = k; id = d.id }) o)) found_new
+    (option_map (λ k. record { key = k; id = d.id }) o)) found_new
     ∙ turned (has_term d term) (key == new) (d.id == d.id) (itself d.id)
   where
     itself : (n : ℕ) → (n == n) ≡ true
@@ -297,9 +297,12 @@ listed : (l : Listing) (id : ℕ) (d : Document) → document_at (documents_of l
     → (e : Listed) × (e.document ≡ d) × ((q : Listed → Bool) → q e ≡ true → list_any q l.documents ≡ true)
 listed l id d at =
     let here = some_of (λ (x : Listed). x.document) (find (λ x. x.document.id == id) l.documents) d
-        (sym (find-document l.documents id) ∙ at) in
-    (here.0, here.2, (found (λ x. (q : Listed → Bool) → q x ≡ true → list_any q l.documents ≡ true)
-        (λ x. x.document.id == id) l.documents here.0 (each_there l.documents) here.1).0)
+    (sym (find-document l.documents id) ∙ at) in (
+      here.0,
+      here.2,
+      (found (λ x. (q : Listed → Bool) → q x ≡ true → list_any q l.documents ≡ true)
+          (λ x. x.document.id == id) l.documents here.0 (each_there l.documents) here.1).0,
+    )
 
 no_from : (b : Bool) → (b ≡ true → ⊥) → b ≡ false
 no_from true h = absurd (h refl)
@@ -307,8 +310,8 @@ no_from false h = refl
 
 module _ (place : ℕ → ℕ) (stands : List ℕ → Listed → Bool) (l : Listing)
     (means : (term : List ℕ) (d : Listed) → stands term d ≡ has_term d.document term) (m : Merge) (n : ℕ) (first : List ℕ)
-        (rest : List (List ℕ)) (up : Ascends (documents_of l)) (merge : IsMerge (documents_of l) m)
-            (next : terms_left l m ≡ first ∷ rest) where
+    (rest : List (List ℕ)) (up : Ascends (documents_of l)) (merge : IsMerge (documents_of l) m)
+    (next : terms_left l m ≡ first ∷ rest) where
   none_yet : pages_of m.lists first ≡ []
   none_yet = merge.no_later first (next-after l m first rest next)
 
@@ -321,7 +324,7 @@ module _ (place : ℕ → ℕ) (stands : List ℕ → Listed → Bool) (l : List
       (cc)))
       (λ after past. no_from (has_term d term) (λ has.
       let least : by_bytes term first ≡ false = next-least l m first rest next term here.0 here.2
-          (ap (λ (x : Document). has_term x term) here.1 ∙ has) after in
+      (ap (λ (x : Document). has_term x term) here.1 ∙ has) after in
       let lower : by_bytes term first ≡ true = one_first term first other past in
       (cc)))
 
@@ -338,11 +341,11 @@ module _ (place : ℕ → ℕ) (stands : List ℕ → Listed → Bool) (l : List
       ∙ new_there (stands first) l m first (means first) up id d new at e key
       ∙ ap (λ (b : Bool). (key == new) && (not b && has_term d first)) (sym (not_before_itself first)) in
       subst (λ (t : List ℕ). has_pair (record { key = key; id = d.id })
-          (pairs_in (pages_of (with_term place stands l m n first).lists t))
-          ≡ ((key == new) && (not (by_bytes first t) && has_term d t))) (sym is) here
+      (pairs_in (pages_of (with_term place stands l m n first).lists t))
+      ≡ ((key == new) && (not (by_bytes first t) && has_term d t))) (sym is) here
   sliced_now term key id d new at e false other =
       ap (λ (ps : List Page). has_pair (record { key = key; id = d.id }) (pairs_in ps))
-          (pages_other place stands l m n first term other)
+      (pages_other place stands l m n first term other)
       ∙ merge.sliced id d new at e term key
       ∙ ap (λ (b : Bool). (key == new) && b) (sym (between term id d other at))
 
@@ -358,9 +361,9 @@ module _ (place : ℕ → ℕ) (stands : List ℕ → Listed → Bool) (l : List
   order_now term true same =
       rw (same_term term first same) (subst AreInOrder (sym (pages_new place stands l m n first none_yet))
       (pages_with-in_order place n (new_pairs (stands first) l m)
-          (in_page_order-in_order (filter_map (new_pair m) (ids_under (stands first) l))
-              (subst Differ (sym (filter_map-map (new_pair m) (λ (x : Listed). x.document.id) (filter (stands first) l.documents)))
-                  (differ m (stands first) l.documents up)))))
+      (in_page_order-in_order (filter_map (new_pair m) (ids_under (stands first) l))
+      (subst Differ (sym (filter_map-map (new_pair m) (λ (x : Listed). x.document.id) (filter (stands first) l.documents)))
+      (differ m (stands first) l.documents up)))))
   order_now term false other = subst AreInOrder (sym (pages_other place stands l m n first term other)) (merge.in_order term)
 
   pub with_term-keeps : IsMerge (documents_of l) (with_term place stands l m n first)
@@ -381,7 +384,7 @@ with_terms-keeps place stands l means up m n (term ∷ terms) others merge left 
     let now = with_term-keeps place stands l means m n term (terms ++ others) up merge left in
     cond_both (nat_le 1024 n) m _ (IsMerge (documents_of l)) (λ _. merge)
     (λ _. with_terms-keeps place stands l means up (with_term place stands l m n term)
-        (n + length (pages_with place n (new_pairs (stands term) l m))) terms others now
+    (n + length (pages_with place n (new_pairs (stands term) l m))) terms others now
     (left-more l m term (terms ++ others) left))
 
 -- a slice, by any test that says which documents have a term
@@ -390,7 +393,7 @@ pub slice_by-keeps : (place : ℕ → ℕ) (stands : List ℕ → Listed → Boo
     → (m : Merge) (most : ℕ) → IsMerge (documents_of l) m → IsMerge (documents_of l) (slice_by place stands l m most)
 slice_by-keeps place stands l means up m most merge =
     with_terms-keeps place stands l means up m 0 (take most (terms_left l m)) (drop most (terms_left l m)) merge
-        (sym (take-append-drop most (terms_left l m)))
+    (sym (take-append-drop most (terms_left l m)))
 
 -- a slice changes neither rules nor new keys
 with_terms-same : (place : ℕ → ℕ) (stands : List ℕ → Listed → Bool) (l : Listing) (m : Merge) (n : ℕ) (terms : List (List ℕ))
@@ -399,9 +402,9 @@ unfolding with_terms
 with_terms-same place stands l m n [] = (refl, refl)
 with_terms-same place stands l m n (term ∷ terms) =
     let more = with_terms-same place stands l (with_term place stands l m n term)
-        (n + length (pages_with place n (new_pairs (stands term) l m))) terms in
+    (n + length (pages_with place n (new_pairs (stands term) l m))) terms in
     cond_both (nat_le 1024 n) m (with_terms place stands l (with_term place stands l m n term)
-        (n + length (pages_with place n (new_pairs (stands term) l m))) terms)
+    (n + length (pages_with place n (new_pairs (stands term) l m))) terms)
     (λ (x : Merge). (x.rules ≡ m.rules) × (x.keys ≡ m.keys)) (λ _. (refl, refl)) (λ _. more)
 
 pub rules-sliced : (place : ℕ → ℕ) (l : Listing) (m : Merge) (most : ℕ) → (sliced place l m most).rules ≡ m.rules
@@ -420,7 +423,7 @@ pub slice_by_bytes-is : (read : PageRef → List Pair) (place : ℕ → ℕ) (l 
     → slice_by place (stands_by read l) l m most ≡ sliced place l m most
 slice_by_bytes-is read place l m most holds order =
     ap (λ (stands : List ℕ → Listed → Bool). slice_by place stands l m most)
-        (fun_ext (λ term. fun_ext (λ d. stands_by-is read l holds order term d ∙ sym (effective-is l term d))))
+    (fun_ext (λ term. fun_ext (λ d. stands_by-is read l holds order term d ∙ sym (effective-is l term d))))
 
 -- ---- slices end
 
@@ -429,7 +432,7 @@ fewer-filter test [] = omega arith
 fewer-filter test (t ∷ ts) =
     let more = fewer-filter test ts in
     cond_both (test t) (t ∷ filter test ts) (filter test ts) (λ (l : List (List ℕ)). length l ≤ suc (length ts)) (λ _. omega arith)
-        (λ _. omega arith)
+    (λ _. omega arith)
 
 pub left-with_terms : (place : ℕ → ℕ) (stands : List ℕ → Listed → Bool) (l : Listing) (m : Merge) (n : ℕ) (terms others : List (List ℕ))
     → terms_left l m ≡ terms ++ others
@@ -438,9 +441,9 @@ unfolding with_terms
 left-with_terms place stands l m n [] others left = subst (λ (x : List (List ℕ)). length (terms_left l m) ≤ length x) left (omega arith)
 left-with_terms place stands l m n (term ∷ terms) others left =
     let more = left-with_terms place stands l (with_term place stands l m n term)
-        (n + length (pages_with place n (new_pairs (stands term) l m))) terms others (left-more l m term (terms ++ others) left) in
+    (n + length (pages_with place n (new_pairs (stands term) l m))) terms others (left-more l m term (terms ++ others) left) in
     cond_both (nat_le 1024 n) m (with_terms place stands l (with_term place stands l m n term)
-        (n + length (pages_with place n (new_pairs (stands term) l m))) terms)
+    (n + length (pages_with place n (new_pairs (stands term) l m))) terms)
     (λ (x : Merge). length (terms_left l x) ≤ suc (length (terms ++ others)))
     (λ _. subst (λ (x : List (List ℕ)). length (terms_left l m) ≤ length x) left (omega arith)) (λ _. omega (arith, more))
 
@@ -452,11 +455,11 @@ unfolding with_terms
 slice_by-ends place stands l m most first rest left =
     let same : take (suc most) (terms_left l m) ≡ first ∷ take most rest = ap (take (suc most)) left in
     let more = left-with_terms place stands l (with_term place stands l m 0 first)
-        (0 + length (pages_with place 0 (new_pairs (stands first) l m))) (take most rest) (drop most rest)
+    (0 + length (pages_with place 0 (new_pairs (stands first) l m))) (take most rest) (drop most rest)
     (left-more l m first rest left ∙ sym (take-append-drop most rest)) in
     let whole : length (take most rest ++ drop most rest) ≡ length rest = ap length (take-append-drop most rest) in
     subst (λ (ts : List (List ℕ)). length (terms_left l (with_terms place stands l m 0 ts)) ≤ length rest) (sym same)
-        (omega (arith, more, whole))
+    (omega (arith, more, whole))
 
 -- ---- publish
 
@@ -490,7 +493,7 @@ module _ (tokens : List ℕ → List (List ℕ)) (l : Listing) (m : Merge) (law 
         (λ d h. stays_there d.document h.0 (new_key m d.document.id) (λ key e. merge.new_keys d.document.id d.document key h.1 e))
         (documents_all _ l.documents known);
     posted_right = mapped (λ (d : Listed). (d.document.score ≤ greatest)
-    × (document_at (documents_of l) d.document.id ≡ Some d.document)) (λ d. IsPostedRight (published l m) d.document.id d.entry)
+        × (document_at (documents_of l) d.document.id ≡ Some d.document)) (λ d. IsPostedRight (published l m) d.document.id d.entry)
         (published_one m) l.documents
         (λ d h. posted_there d.document h.1 (new_key m d.document.id) refl)
         (documents_all _ l.documents known);

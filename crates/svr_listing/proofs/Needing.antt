@@ -81,7 +81,7 @@ visited_once x (suc n) (k ∷ ks) falls there = by (x == k) refl there n (visite
         let same : x ≡ k = eqb-true x k here in
         first_only _ _ (reaches (last_or (Some k) (take m ks)) x)
         (none_lower x (take m ks) (all-take (λ later. later < x) m ks
-            (subst (λ (n : ℕ). AllByRecursion (λ later. later < n) ks) (sym same) falls.0)))
+        (subst (λ (n : ℕ). AllByRecursion (λ later. later < n) ks) (sym same) falls.0)))
         (last_le x k (take m ks) (omega arith) (all-take (λ y. y ≤ x) m ks (weaker _ _ ks (λ y lt. low y same lt) falls.0)))
         refl
     by false away e m more = step m away e (more e)
@@ -170,7 +170,7 @@ first_there tokens l terms is =
     ∙ h.0 (λ other. list_any (λ pair. page.ref.key == pair.key) other.pairs)
     (ap (list_any (λ pair. page.ref.key == pair.key)) h.1.1 ∙ or_left _ _ (itself page.ref.key)))))
     (both _ BeginsRight (pages_of l.lists term) (each_there (pages_of l.lists term))
-        (begin_right (pages_of l.lists term) (is.in_order term))))
+    (begin_right (pages_of l.lists term) (is.in_order term))))
     (each_there terms))
 
 -- ---- the pages of the groups that are visited
@@ -187,7 +187,7 @@ pub needed-visited : (tokens : List ℕ → List (List ℕ)) (l : Listing) → I
     → HasSame (pages_visited k l.rules.bound score (pages_at l terms) (groups_of l terms m)) (needed l terms m k score)
 needed-visited tokens l is terms m k score f =
     ap (sum_by f) (of_keys l.documents (λ d. matches m terms d.document) (pages_at l terms) (visits_of l terms m k score)
-        (keys l terms))
+    (keys l terms))
     ∙ by_firsts f (take (visits_of l terms m k score) (keys l terms)) (last_key l terms m k score) (refs_of l terms)
     (weaker _ _ (refs_of l terms) (λ r there. visited_once r.key (visits_of l terms m k score) (keys l terms)
-        (falls-descending (keys_all l terms)) there) (first_there tokens l terms is))
+    (falls-descending (keys_all l terms)) there) (first_there tokens l terms is))

@@ -49,7 +49,7 @@ document-more f score matches d ds (k ∷ ks) =
     ap (total f score) (map_filter ((d.entry.key == k) && matches d) d (filter (λ e. (e.entry.key == k) && matches e) ds))
     ∙ one_document f score ((d.entry.key == k) && matches d) d.document.id (matching_at ds matches k) in
     put_together _ _ _ _ _ _ 0 (cond ((d.entry.key == k) && matches d) 1 0) (times (matches d) d.entry.key ks)
-        (total f score (d.document.id ∷ [])) first here rest first'
+    (total f score (d.document.id ∷ [])) first here rest first'
 
 none_at_all : (f : Hit → ℕ) (score : ℕ → Option ℕ) (matches : Listed → Bool) (ks : List ℕ)
     → total f score (ids_in (groups_by [] matches ks)) ≡ 0
@@ -75,7 +75,7 @@ total-groups f score matches [] ks once = none_at_all f score matches ks
 total-groups f score matches (d ∷ ds) ks once =
     document-more f score matches d ds ks
     ∙ ap (λ n. n * total f score (d.document.id ∷ []) + total f score (ids_in (groups_by ds matches ks)))
-        (counted (matches d) d.entry.key ks once.0)
+    (counted (matches d) d.entry.key ks once.0)
     ∙ ap (λ n. cond (matches d) 1 0 * total f score (d.document.id ∷ []) + n) (total-groups f score matches ds ks once.1)
     ∙ sym (ap (total f score) (map_filter (matches d) d (filter matches ds))
     ∙ one_document f score (matches d) d.document.id (map (λ (e : Listed). e.document.id) (filter matches ds)))

@@ -87,14 +87,19 @@ after-keeps tokens s (merge_slice place most) is brings = record {
       let was = some_of (λ m. sliced place s.listing m most) s.merge m e in
       let old = is.merge was.0 was.1 in
       subst (IsLawfulMerge (documents_of s.listing)) was.2
-          (record { lawful = subst AreLawful (sym (rules-sliced place s.listing was.0 most)) old.lawful;
-              merge = sliced-keeps place s.listing was.0 most is.listing.documents.ascend old.merge });
+      (record {
+        lawful = subst AreLawful (sym (rules-sliced place s.listing was.0 most)) old.lawful;
+        merge = sliced-keeps place s.listing was.0 most is.listing.documents.ascend old.merge;
+      });
 }
 after-keeps tokens s merge_publish is brings =
     let now = published_or_not tokens s.listing is.lawful is.listing s.merge is.merge in
     record { lawful = now.0; listing = now.1; merge = none_begun (documents_of (published_with s.listing s.merge)) }
-after-keeps tokens s merge_forgotten is brings = record { lawful = is.lawful; listing = is.listing;
-    merge = none_begun (documents_of s.listing) }
+after-keeps tokens s merge_forgotten is brings = record {
+  lawful = is.lawful;
+  listing = is.listing;
+  merge = none_begun (documents_of s.listing);
+}
 
 pub after_all-keeps : (tokens : List ℕ → List (List ℕ)) (s : Served) (events : List Event) → IsServed tokens s → AllBring tokens events
     → IsServed tokens (after_all s events)
@@ -115,14 +120,14 @@ pub search-at_any_time : (tokens : List ℕ → List (List ℕ)) (s : Served) (e
     → (read : PageRef → List Pair) → HoldsPosted read (after_all s events).listing
     → (k : ℕ) (m : Mode) (term : List ℕ) (terms : List (List ℕ)) (hits : List Hit) (visits : ℕ)
     → IsAnswer k (after_all s events).listing.rules.bound (score_in (documents_of (after_all s events).listing))
-        (groups_by_bytes read (after_all s events).listing (term ∷ terms) m) hits visits
+    (groups_by_bytes read (after_all s events).listing (term ∷ terms) m) hits visits
     → hits ≡ best_hits k (map hit_of (filter (matches m (term ∷ terms)) (documents_after_all (documents_of s.listing) events)))
 search-at_any_time tokens s events is bring read holds k m term terms hits visits a =
     let now = after_all-keeps tokens s events is bring in
     let l = (after_all s events).listing in
     search-is tokens l now.listing k m term terms hits visits
     (subst (λ groups. IsAnswer k l.rules.bound (score_in (documents_of l)) groups hits visits)
-        (groups_by_bytes-is read l holds now.listing.in_order (term ∷ terms) m) a)
+    (groups_by_bytes-is read l holds now.listing.in_order (term ∷ terms) m) a)
     ∙ ap (λ (ds : List Document). best_hits k (map hit_of (filter (matches m (term ∷ terms)) ds))) (documents-after_all s events)
 
 -- ---- entries by id, for maps of them
@@ -143,7 +148,7 @@ entry-changed l (d ∷ ds) id =
 
 pub entry-published : (l : Listing) (m : Merge) (id : ℕ)
     → entry_of (published l m).documents id ≡ option_map (λ d. entry_by m.rules d.score (new_key m id))
-        (document_at (documents_of l) id)
+    (document_at (documents_of l) id)
 entry-published l m id = each l.documents
   where
     each : (ls : List Listed) → entry_of (map (published_one m) ls) id
@@ -151,7 +156,7 @@ entry-published l m id = each l.documents
     each [] = refl
     each (d ∷ ds) =
         by (d.document.id == id) refl (find (λ e. e.document.id == id) (map (published_one m) ds))
-            (document_at (map (λ (e : Listed). e.document) ds) id) (each ds)
+        (document_at (map (λ (e : Listed). e.document) ds) id) (each ds)
       where
         by : (b : Bool) → (d.document.id == id) ≡ b → (x : Option Listed) (y : Option Document)
             → option_map (λ (e : Listed). e.entry) x ≡ option_map (λ (e : Document). entry_by m.rules e.score (new_key m id)) y
@@ -166,11 +171,11 @@ pub entry-kept : (tokens : List ℕ → List (List ℕ)) (l : Listing) (now : Li
     → entry_of (changed l now).documents id ≡ entry_of l.documents id
 entry-kept tokens l now id d b is was at same =
     let here = some_of (λ (x : Listed). x.document) (find (λ x. x.document.id == id) l.documents) b
-        (sym (find-document l.documents id) ∙ was) in
+    (sym (find-document l.documents id) ∙ was) in
     let entry : entry_of l.documents id ≡ Some here.0.entry = ap (option_map (λ (x : Listed). x.entry)) here.1 in
     let stays : l.rules.stays here.0.document.score here.0.entry.key
     ≡ true = (found (λ x. l.rules.stays x.document.score x.entry.key ≡ true)
-        (λ x. x.document.id == id) l.documents here.0 is.stay here.1).0 in
+    (λ x. x.document.id == id) l.documents here.0 is.stay here.1).0 in
     let score : d.score ≡ here.0.document.score = same ∙ ap (λ (x : Document). x.score) (sym here.2) in
     entry-changed l now id
     ∙ ap (option_map (λ (e : Document). entry_now l.rules e.score (entry_of l.documents id))) at
@@ -203,7 +208,7 @@ posted-published tokens l m is merge none =
     weaker _ _ l.documents
     (λ d h new e term.
     under_all (new == new) (is_after m.last term) (has_term d.document term) _ (itself new) (none-left l m none term d h.1)
-        (merge.sliced d.document.id d.document new h.0 e term new))
+    (merge.sliced d.document.id d.document new h.0 e term new))
     (both (λ (d : Listed). document_at (documents_of l) d.document.id ≡ Some d.document) _ l.documents
     (documents_all (λ d. document_at (documents_of l) d.id ≡ Some d) l.documents (at_itself (documents_of l) is.documents.ascend))
     (each_there l.documents))
@@ -215,7 +220,7 @@ pub held-published : (tokens : List ℕ → List (List ℕ)) (l : Listing) (m : 
     ≡ (has_term d.document term && (published_one m d).entry.moved)) l.documents
 held-published tokens l m is merge none =
     weaker _ _ l.documents (λ d there term. by d (new_key m d.document.id) term (λ new e. there new e term))
-        (posted-published tokens l m is merge none)
+    (posted-published tokens l m is merge none)
   where
     only_moved : (has there : Bool) → there ≡ has → (has && (false || not there)) ≡ (has && false)
     only_moved true true e = refl
@@ -227,7 +232,7 @@ held-published tokens l m is merge none =
         ≡ has_term d.document term)
         → (has_term d.document term && ((entry_by m.rules d.document.score o).moved
         || not (has_pair (record { key = (entry_by m.rules d.document.score o).key; id = d.document.id })
-            (posted (published l m) term))))
+        (posted (published l m) term))))
         ≡ (has_term d.document term && (entry_by m.rules d.document.score o).moved)
     by d None term there = refl
     by d (Some new) term there = only_moved (has_term d.document term) _ (there new refl)

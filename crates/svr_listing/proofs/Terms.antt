@@ -143,7 +143,7 @@ filter-rest test (t ∷ ts) first rest up higher e =
     let same : t ≡ first = cc in
     let others : filter test ts ≡ rest = cc in
     let all : AllByRecursion (λ y. by_bytes first y ≡ true) ts = subst
-        (λ (x : List ℕ). AllByRecursion (λ y. by_bytes x y ≡ true) ts) same (weaker _ _ ts (λ y h. ap is_lt h) up.0) in
+    (λ (x : List ℕ). AllByRecursion (λ y. by_bytes x y ≡ true) ts) same (weaker _ _ ts (λ y h. ap is_lt h) up.0) in
     rw (ap (by_bytes first) same ∙ not_before_itself first)
     (filter_whole (by_bytes first) ts all ∙ sym (filter_whole test ts (weaker _ _ ts higher all)) ∙ others))
     (λ fails e. rw (not_first t fails) (more e))
@@ -182,7 +182,7 @@ among l m term d there has after =
     (λ t e.
     let same = same_term term t e in
     and_from _ _ (subst (λ x. is_live l x ≡ true) same (live l term d there has))
-        (and_from _ _ (subst (λ x. is_after m.last x ≡ true) same after) e))
+    (and_from _ _ (subst (λ x. is_after m.last x ≡ true) same after) e))
     (list_any-append (bytes_eq term) (map (λ list. list.term) l.lists) (flat_map (λ d. d.document.terms) l.documents)
     ∙ or_right _ _ (any-flat_map (bytes_eq term) (λ (d : Listed). d.document.terms) l.documents
     ∙ there (λ d. list_any (bytes_eq term) d.document.terms) has))
@@ -220,4 +220,4 @@ pub left-more : (l : Listing) (m : Merge) (first : List ℕ) (rest : List (List 
     → filter (by_bytes first) (live_terms l) ≡ rest
 left-more l m first rest e =
     filter-rest (is_after m.last) (live_terms l) first rest (rise-live l)
-        (λ t past. after_later m.last first t (next-after l m first rest e) past) e
+    (λ t past. after_later m.last first t (next-after l m first rest e) past) e

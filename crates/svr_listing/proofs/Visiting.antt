@@ -91,15 +91,23 @@ pub record SoFar (k : ℕ) (bound : ℕ → ℕ) (score : ℕ → Option ℕ) (g
 
 pub SoFar-start : (k : ℕ) (bound : ℕ → ℕ) (score : ℕ → Option ℕ) (groups : List Group) → SoFar k bound score groups 0 [] groups
 unfolding ranked
-SoFar-start zero bound score groups = record { left_is = refl; best = refl; not_yet = λ m lt. absurd (omega arith);
-    within = omega arith }
-SoFar-start (suc k) bound score groups = record { left_is = refl; best = refl; not_yet = λ m lt. absurd (omega arith);
-    within = omega arith }
+SoFar-start zero bound score groups = record {
+  left_is = refl;
+  best = refl;
+  not_yet = λ m lt. absurd (omega arith);
+  within = omega arith;
+}
+SoFar-start (suc k) bound score groups = record {
+  left_is = refl;
+  best = refl;
+  not_yet = λ m lt. absurd (omega arith);
+  within = omega arith;
+}
 
 kth_of_best : (k : ℕ) (hits xs : List Hit) → hits ≡ best_hits k xs → kth_score k hits ≡ kth_score k xs
 kth_of_best k hits xs e =
     ap (λ (l : List Hit). kth_score k l) e ∙ ap (λ (l : List Hit). option_map (λ (h : Hit). h.score) (slice_get l (k - 1)))
-        (best_hits-best_hits k xs)
+    (best_hits-best_hits k xs)
 
 pub stops-at : (k : ℕ) (bound : ℕ → ℕ) (score : ℕ → Option ℕ) (groups : List Group) (n : ℕ) (hits : List Hit) (group : Group)
     → slice_get groups n ≡ Some group → hits ≡ best_hits k (found score groups n)
@@ -145,7 +153,7 @@ below_bound : (score : ℕ → Option ℕ) (worst : ℕ) (ids : List ℕ) → Al
 below_bound score worst [] all = tt
 below_bound score worst (id ∷ ids) all =
     one (score id) (all 0 id (omega arith)) (below_bound score worst ids
-        (All-tail (λ (x : ℕ). ForSome (score x) (λ s. s < worst)) id ids all))
+    (All-tail (λ (x : ℕ). ForSome (score x) (λ s. s < worst)) id ids all))
   where
     one : (o : Option ℕ) → ForSome o (λ s. s < worst) → AllBelow worst (hits_of score ids)
         → AllBelow worst (cons_option (option_map (λ s. record { id = id; score = s }) o) (hits_of score ids))
@@ -199,12 +207,12 @@ SoFar-settled k may bound score groups n hits group rest some b down are so abov
     let late = below_groups may bound score b w.0 group.key w.2 (group ∷ rest) are (itself, weaker group.key rest down.0) in
     let all : hits_of score (ids_in groups) ≡ found score groups n ++ hits_of score (ids_in (group ∷ rest)) =
     ap (λ (l : List Group). hits_of score (ids_in l))
-        (sym (take-append-drop n groups) ∙ ap (λ (l : List Group). take n groups ++ l) so.left_is)
+    (sym (take-append-drop n groups) ∙ ap (λ (l : List Group). take n groups ++ l) so.left_is)
     ∙ hits_in-append score (take n groups) (group ∷ rest) in
     record {
       best = so.best
           ∙ sym (best_hits-late k (hits_of score (ids_in (group ∷ rest))) (found score groups n) w.0
-              (sym (kth_of_best k hits (found score groups n) so.best) ∙ w.1) some late)
+          (sym (kth_of_best k hits (found score groups n) so.best) ∙ w.1) some late)
           ∙ best_hits-swapped k (hits_of score (ids_in (group ∷ rest))) (found score groups n)
           ∙ ap (best_hits k) (sym all);
       least = least-is (stops k bound score groups) (length groups) n so.within

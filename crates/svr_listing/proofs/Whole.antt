@@ -24,7 +24,7 @@ fewer place l m turns le =
     by_list (λ left. length left ≤ suc turns → length (terms_left l (sliced place l m 1000)) ≤ turns) (terms_left l m)
     (λ none _.
     let same = left-with_terms place (is_effective l) l m 0 (take 1000 (terms_left l m)) (drop 1000 (terms_left l m))
-        (sym (take-append-drop 1000 (terms_left l m))) in
+    (sym (take-append-drop 1000 (terms_left l m))) in
     let whole : length (take 1000 (terms_left l m) ++ drop 1000 (terms_left l m))
     ≡ length (terms_left l m) = ap length (take-append-drop 1000 (terms_left l m)) in
     let nothing : length (terms_left l m) ≡ 0 = ap length none in
@@ -80,7 +80,7 @@ module _ (tokens : List ℕ → List (List ℕ)) (places : ℕ → ℕ → ℕ) 
       weaker _ _ l.documents
       (λ d at.
       ap (λ ps. option_map (λ pair. pair.key) (find (λ pair. pair.id == d.document.id) ps))
-          (all_sliced-same places l start (length (terms_left l start))).1
+      (all_sliced-same places l start (length (terms_left l start))).1
       ∙ new_key-begin rules (documents_of l) d.document.id
       ∙ ap (option_map (λ (e : Document). rules.key e.score)) at)
       (documents_all (λ d. document_at (documents_of l) d.id ≡ Some d) l.documents (at_itself (documents_of l) is.documents.ascend))
@@ -98,7 +98,7 @@ module _ (tokens : List ℕ → List (List ℕ)) (places : ℕ → ℕ → ℕ) 
       mapped _ _ (published_one end) l.documents
       (λ d h term.
       ap (λ (entry : ListKey). has_pair (record { key = entry.key; id = d.document.id }) (posted (published l end) term))
-          (ap (entry_by end.rules d.document.score) h.0)
+      (ap (entry_by end.rules d.document.score) h.0)
       ∙ h.1 (rules.key d.document.score) h.0 term)
       (both _ _ l.documents new_keys (posted-published tokens l end is end-is
-          (all_sliced-ends places l start (length (terms_left l start)) (omega arith))))
+      (all_sliced-ends places l start (length (terms_left l start)) (omega arith))))

@@ -137,7 +137,7 @@ with_terms place stands l m n [] = m
 with_terms place stands l m n (term ∷ terms) =
     if nat_le 1024 n then m
     else with_terms place stands l (with_term place stands l m n term)
-        (n + length (pages_with place n (new_pairs (stands term) l m))) terms
+    (n + length (pages_with place n (new_pairs (stands term) l m))) terms
 
 -- a slice of so many terms at most, by what stands under a term; `place` gives the address of each of its pages
 abbrev pub slice_by : (ℕ → ℕ) → (List ℕ → Listed → Bool) → Listing → Merge → ℕ → Merge

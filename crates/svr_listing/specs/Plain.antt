@@ -1,8 +1,5 @@
 -- What the plain program's values stand for.
-use Rattle.std.specs.Prelude.{ℕ, ◌≤◌, ⊤, List, [], ◌∷◌}
-use Rattle.svr_listing.specs.Groups.{Group}
-use Rattle.svr_listing.specs.Joined.{with_id}
-use Rattle.svr_listing.specs.Listing.{with_key}
+use Rattle.std.specs.Prelude.{◌≤◌, ⊤}
 use Rattle.svr_listing.specs.Methods.{Rules, chunk_rules, id_rules, score_rules, threshold_rules}
 use Rattle.svr_listing.specs.declared.method.ListingMethod.{ListingMethod}
 use Rattle.svr_listing.specs.declared.method.ListingMethod.TheVariants as method

@@ -30,8 +30,10 @@ published_with l None = l
 published_with l (Some m) = published l m
 
 abbrev pub after : Served → Event → Served
-after s (change now) = record { listing = changed s.listing now;
-    merge = option_map (λ m. touched m (documents_of s.listing) now) s.merge }
+after s (change now) = record {
+  listing = changed s.listing now;
+  merge = option_map (λ m. touched m (documents_of s.listing) now) s.merge;
+}
 after s (merge_begin rules) = record { listing = s.listing; merge = Some (begin rules (documents_of s.listing)) }
 after s (merge_slice place most) = record { listing = s.listing; merge = option_map (λ m. sliced place s.listing m most) s.merge }
 after s merge_publish = record { listing = published_with s.listing s.merge; merge = None }

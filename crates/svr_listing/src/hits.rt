@@ -50,7 +50,12 @@ fn first_groups(groups: &[Group], n: usize) -> &[Group]
 }
 
 /// The hits in the first `n` groups, or in all where there are fewer.
-pub fn found<S: Scores>(alloc: Global, scores: &S, groups: &[Group], n: usize) -> Result<Vec<Hit>, Memory>
+pub fn found<S: Scores>(
+    alloc: Global,
+    scores: &S,
+    groups: &[Group],
+    n: usize,
+) -> Result<Vec<Hit>, Memory>
     requires { AllByRecursion IsOrdered groups.now }
     ensures { IfOk result (λ hits. hits.items ≡ found (S.score_of scores.now) groups.now n) }
 {
@@ -58,7 +63,12 @@ pub fn found<S: Scores>(alloc: Global, scores: &S, groups: &[Group], n: usize) -
 }
 
 /// The best `k` hits of all groups, best first; all hits where there are fewer.
-pub fn best_of_groups<S: Scores>(alloc: Global, k: u32, scores: &S, groups: &[Group]) -> Result<Vec<Hit>, Memory>
+pub fn best_of_groups<S: Scores>(
+    alloc: Global,
+    k: u32,
+    scores: &S,
+    groups: &[Group],
+) -> Result<Vec<Hit>, Memory>
     requires { AllByRecursion IsOrdered groups.now }
     ensures { IfOk result (λ hits. hits.items ≡ best_hits k (hits_of (S.score_of scores.now) (ids_in groups.now))) }
 {

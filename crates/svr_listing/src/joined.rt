@@ -79,7 +79,11 @@ fn insert_ids(ids: &mut Vec<DocId>, more: &[DocId]) -> Result<(), Memory>
 fn common(alloc: Global, ids: &[DocId], others: &[DocId]) -> Result<Vec<DocId>, Memory>
     ensures { IfOk result (λ both. both.items ≡ filter (λ id. is_in id others.now) ids.now) }
 {
-    let both = ids.iter().copied().filter(|id| is_in(*id, others)).collect(alloc)?;
+    let both = ids
+        .iter()
+        .copied()
+        .filter(|id| is_in(*id, others))
+        .collect(alloc)?;
     Ok(both)
 }
 

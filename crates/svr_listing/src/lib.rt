@@ -9,8 +9,8 @@ mod joined;
 mod method;
 mod visits;
 
-pub use hits::{best_of_groups, found, hits_of, ids_in};
 pub use group::Group;
+pub use hits::{best_of_groups, found, hits_of, ids_in};
 pub use joined::{groups_in_all, groups_in_any};
 pub use method::ListingMethod;
 pub use visits::{stops, visited};

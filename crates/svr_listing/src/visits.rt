@@ -5,8 +5,8 @@ ghost use Rattle.svr_listing.specs.Groups.{IsOrdered};
 ghost use Rattle.svr_listing.specs.Plain.{HasDivisor, rules_of};
 ghost use Rattle.svr_listing.specs.Visits.{is_above, stops, visited};
 
-use crate::hits::found;
 use crate::group::Group;
+use crate::hits::found;
 use crate::method::ListingMethod;
 use std::alloc::Global;
 use svr_edge::Memory;

@@ -1,14 +1,17 @@
 -- The methods keep the laws.
-use Rattle.std.proofs.Common.{◌≡◌, ℕ, ◌*◌, ◌/◌, ◌≤◌, true, refl, arith, rules}
+use Rattle.std.proofs.Common.{ℕ, ◌*◌, ◌/◌, ◌≤◌, refl, arith}
 use Rattle.std.proofs.lemmas.Bool.Decides.{nat_tests}
 use Rattle.std.proofs.Math.Nat.{mul-le-mul_left, div-mul-le_self}
 use Rattle.std.proofs.lemmas.Nat.{le-div}
 use Rattle.std.proofs.lemmas.Bool.{leb-true, le-leb}
-use Rattle.svr_listing.specs.Methods.{AreLawful, greatest, id_rules, score_rules, threshold_rules}
+use Rattle.svr_listing.specs.Methods.{AreLawful, id_rules, score_rules, threshold_rules}
 
 pub id_lawful : AreLawful id_rules
-id_lawful = record { stays_at_own = λ score low. refl; within_bound = λ score key low stays. low;
-    bounds_rise = λ key other up. omega arith }
+id_lawful = record {
+  stays_at_own = λ score low. refl;
+  within_bound = λ score key low stays. low;
+  bounds_rise = λ key other up. omega arith;
+}
 
 pub score_lawful : AreLawful score_rules
 score_lawful = record {
@@ -26,10 +29,10 @@ div_rises key other num den one up =
 pub threshold_lawful : (num den : ℕ) → 1 ≤ den → den ≤ num → AreLawful (threshold_rules num den)
 threshold_lawful num den one le = record {
   stays_at_own = λ score low.
-    let more : score * den ≤ score * num = mul-le-mul_left score le in
-    le-leb score (score * num / den) (le-div score (score * num) den one more);
+      let more : score * den ≤ score * num = mul-le-mul_left score le in
+      le-leb score (score * num / den) (le-div score (score * num) den one more);
   within_bound = λ score key low stays.
-    let within : score ≤ key * num / den = leb-true score (key * num / den) stays in omega arith;
+      let within : score ≤ key * num / den = leb-true score (key * num / den) stays in omega arith;
   bounds_rise = λ key other up.
-    let more : key * num / den ≤ other * num / den = div_rises key other num den one up in omega arith;
+      let more : key * num / den ≤ other * num / den = div_rises key other num den one up in omega arith;
 }

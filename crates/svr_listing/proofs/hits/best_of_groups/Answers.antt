@@ -1,4 +1,4 @@
-use Rattle.std.proofs.Common.{List, ℕ, ◌≡◌, ◌<◌, ◌^◌, rules, subst, sym}
+use Rattle.std.proofs.Common.{◌≡◌, ◌<◌, ◌^◌, rules, subst, sym}
 use Rattle.std.specs.List.{All}
 use Rattle.svr_listing.specs.Groups.{ids_in}
 use Rattle.svr_listing.proofs.Computing.{ids_fit}

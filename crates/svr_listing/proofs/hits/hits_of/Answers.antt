@@ -1,4 +1,4 @@
-use Rattle.std.proofs.Common.{◌<◌, length, arith}
+use Rattle.std.proofs.Common.{arith}
 use Rattle.svr_listing.proofs.Computing.{hits_of-step}
 use Rattle.svr_listing.proofs.hits.hits_of.Goals as goal
 

@@ -1,4 +1,4 @@
-use Rattle.std.proofs.Common.{◌<◌, length, sym, ◌∙◌, arith}
+use Rattle.std.proofs.Common.{length, sym, ◌∙◌, arith}
 use Rattle.svr_listing.specs.Plain.{rules_of}
 use Rattle.svr_listing.specs.Visits.{stops}
 use Rattle.svr_listing.proofs.Computing.{visited-all}
