@@ -36,7 +36,7 @@ effective false false false = refl
 pub effective-is : (l : Listing) (term : List ℕ) (d : Listed) → is_effective l term d ≡ has_term d.document term
 effective-is l term d = effective (has_term d.document term) d.entry.moved (has_pair (listed_at d) (posted l term))
 
-pub pairs_by-posted : (read : PageRef → List Pair) (pages : List Page) → AllByRecursion (λ page. read page.ref ≡ page.pairs) pages
+pub pairs_by-posted : (read : PageRef → List Pair) (pages : List Page) → AllByRecursion (λ page. read page.head ≡ page.pairs) pages
     → AreInOrder pages → pairs_by read pages ≡ pairs_in pages
 pairs_by-posted read [] holds order = refl
 pairs_by-posted read (page ∷ []) holds order = holds.0 ∙ sym (append_nil page.pairs)
@@ -46,8 +46,8 @@ pairs_by-posted read (page ∷ []) holds order = holds.0 ∙ sym (append_nil pag
     append_nil (p ∷ ps) = ap (λ (l : List Pair). p ∷ l) (append_nil ps)
 pairs_by-posted read (page ∷ next ∷ pages) holds order =
     ap₂ (λ (a b : List Pair). a ++ b)
-    (ap (filter (λ pair. is_before pair (first_pair next.ref))) holds.0
-    ∙ filter_whole (λ pair. is_before pair (first_pair next.ref)) page.pairs order.1)
+    (ap (filter (λ pair. is_before pair (first_pair next.head))) holds.0
+    ∙ filter_whole (λ pair. is_before pair (first_pair next.head)) page.pairs order.1)
     (pairs_by-posted read (next ∷ pages) holds.1 order.2)
 
 held_bytes : (read : PageRef → List Pair) (l : Listing) → HoldsPosted read l → ((term : List ℕ) → AreInOrder (pages_of l.lists term))

@@ -157,18 +157,18 @@ keys_all l terms = flat_map (λ t. map (λ (pair : Pair). pair.key) (posted l t 
 first_there : (tokens : List ℕ → List (List ℕ)) (l : Listing) (terms : List (List ℕ)) → IsListing tokens l
     → AllByRecursion (λ (r : PageRef). list_any (λ k. r.key == k) (keys l terms) ≡ true) (refs_of l terms)
 first_there tokens l terms is =
-    all-flat_map _ (λ term. map (λ page. page.ref) (pages_of l.lists term)) terms
+    all-flat_map _ (λ term. map (λ page. page.head) (pages_of l.lists term)) terms
     (weaker _ _ terms (λ term term_there.
-    mapped _ _ (λ (page : Page). page.ref) (pages_of l.lists term)
+    mapped _ _ (λ (page : Page). page.head) (pages_of l.lists term)
     (λ page h.
-    any-descending (λ k. page.ref.key == k) (keys_all l terms)
-    ∙ any-flat_map (λ k. page.ref.key == k) (λ t. map (λ (pair : Pair). pair.key) (posted l t ++ held l t)) terms
-    ∙ term_there (λ t. list_any (λ k. page.ref.key == k) (map (λ (pair : Pair). pair.key) (posted l t ++ held l t)))
-    (any-map (λ k. page.ref.key == k) (λ (pair : Pair). pair.key) (posted l term ++ held l term)
-    ∙ list_any-append (λ pair. page.ref.key == pair.key) (posted l term) (held l term)
-    ∙ or_left _ _ (any-flat_map (λ pair. page.ref.key == pair.key) (λ (page : Page). page.pairs) (pages_of l.lists term)
-    ∙ h.0 (λ other. list_any (λ pair. page.ref.key == pair.key) other.pairs)
-    (ap (list_any (λ pair. page.ref.key == pair.key)) h.1.1 ∙ or_left _ _ (itself page.ref.key)))))
+    any-descending (λ k. page.head.key == k) (keys_all l terms)
+    ∙ any-flat_map (λ k. page.head.key == k) (λ t. map (λ (pair : Pair). pair.key) (posted l t ++ held l t)) terms
+    ∙ term_there (λ t. list_any (λ k. page.head.key == k) (map (λ (pair : Pair). pair.key) (posted l t ++ held l t)))
+    (any-map (λ k. page.head.key == k) (λ (pair : Pair). pair.key) (posted l term ++ held l term)
+    ∙ list_any-append (λ pair. page.head.key == pair.key) (posted l term) (held l term)
+    ∙ or_left _ _ (any-flat_map (λ pair. page.head.key == pair.key) (λ (page : Page). page.pairs) (pages_of l.lists term)
+    ∙ h.0 (λ other. list_any (λ pair. page.head.key == pair.key) other.pairs)
+    (ap (list_any (λ pair. page.head.key == pair.key)) h.1.1 ∙ or_left _ _ (itself page.head.key)))))
     (both _ BeginsRight (pages_of l.lists term) (each_there (pages_of l.lists term))
     (begin_right (pages_of l.lists term) (is.in_order term))))
     (each_there terms))

@@ -29,18 +29,18 @@ IsPostedRight l id entry =
 
 -- a page begins with its first pair
 abbrev pub BeginsRight : Page → Type 0
-BeginsRight page = (rest : List Pair) × (page.pairs ≡ first_pair page.ref ∷ rest)
+BeginsRight page = (rest : List Pair) × (page.pairs ≡ first_pair page.head ∷ rest)
 
 -- pages in page order: each pair of one stands before the first pair of the next
 abbrev pub AreInOrder : List Page → Type 0
 AreInOrder [] = ⊤
 AreInOrder (page ∷ []) = BeginsRight page
 AreInOrder (page ∷ next ∷ pages) =
-    BeginsRight page × AllByRecursion (λ pair. is_before pair (first_pair next.ref) ≡ true) page.pairs × AreInOrder (next ∷ pages)
+    BeginsRight page × AllByRecursion (λ pair. is_before pair (first_pair next.head) ≡ true) page.pairs × AreInOrder (next ∷ pages)
 
 -- every posted page is read as it was posted
 abbrev pub HoldsPosted : (PageRef → List Pair) → Listing → Type 0
-HoldsPosted read l = (term : List ℕ) → AllByRecursion (λ page. read page.ref ≡ page.pairs) (pages_of l.lists term)
+HoldsPosted read l = (term : List ℕ) → AllByRecursion (λ page. read page.head ≡ page.pairs) (pages_of l.lists term)
 
 -- what holds of a listing
 pub record IsListing (tokens : List ℕ → List (List ℕ)) (l : Listing) : Type 0 where

@@ -112,7 +112,7 @@ cut many (suc limit) (p ∷ ps) = take many (p ∷ ps) ∷ cut many limit (drop 
 
 -- a page at an address, with these pairs
 abbrev pub page_at : ℕ → List Pair → Page
-page_at at pairs = record { ref = ref_of at pairs; pairs = pairs }
+page_at at pairs = record { head = ref_of at pairs; pairs = pairs }
 
 -- pages at their places in a record, counted on from n
 abbrev pub pages_from : (ℕ → ℕ) → ℕ → List (List Pair) → List Page

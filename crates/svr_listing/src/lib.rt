@@ -3,14 +3,21 @@
 //! is the plain slow program that computes the definitions, for tests to compare with.
 #![tactic(auto)]
 
+mod document;
 mod group;
 mod hits;
 mod joined;
+mod keys;
+mod listing;
 mod method;
+mod pages;
 mod visits;
 
+pub use document::{Document, Listed};
 pub use group::Group;
 pub use hits::{best_of_groups, found, hits_of, ids_in};
 pub use joined::{groups_in_all, groups_in_any};
+pub use listing::PlainListing;
 pub use method::ListingMethod;
+pub use pages::{Page, TermPages};
 pub use visits::{stops, visited};
