@@ -6,10 +6,13 @@ use Rattle.svr_num.specs.declared.mode.Mode.{Mode}
 use Rattle.svr_postpage.specs.declared.page_ref.PageRef.{PageRef}
 use Rattle.svr_postpage.specs.declared.pair.Pair.{Pair}
 use Rattle.svr_postpage.specs.Pairs.{first_pair, is_before}
-use Rattle.svr_listing.specs.Kept.{AreInOrder, HoldsPosted}
+use Rattle.svr_postpage.specs.Wanted.{pairs_told}
+use Rattle.svr_postpage.proofs.Spelling.{pairs_told-written}
+use Rattle.svr_listing.specs.Kept.{AreInOrder, HoldsPosted, StandsIn}
 use Rattle.svr_listing.specs.Listing.{Listed, Listing, Page, descending, groups_by, groups_by_bytes, groups_of}
 use Rattle.svr_listing.specs.Listing.{has_pair, has_term, held, is_effective, keys, keys_by, listed_at, pages_of, pairs_by}
 use Rattle.svr_listing.specs.Listing.{pairs_in, posted, stands_by, stands_under}
+use Rattle.svr_listing.proofs.Finding.{weaker}
 use Rattle.svr_listing.proofs.Truths.{filter_whole}
 
 standing : (has moved there : Bool) → ((has && (moved || not there)) || (not moved && (there && not (there && not has)))) ≡ has
@@ -75,3 +78,10 @@ groups_by_bytes-is read l holds order terms m =
     ap₂ (λ (stands : Listed → List ℕ → Bool) (ks : List ℕ). groups_by l.documents (λ d. stands_under m (stands d) terms) ks)
     (fun_ext (λ d. fun_ext (λ term. stands_by-is read l holds order term d)))
     (keys_by-is read l holds order terms)
+
+-- bytes in which each posted page stands at its address are such
+pub posted-told : (told : List ℕ) (l : Listing) → ((term : List ℕ) → AllByRecursion (StandsIn told) (pages_of l.lists term))
+    → HoldsPosted (pairs_told told) l
+posted-told told l stand =
+    λ term. weaker (StandsIn told) (λ page. pairs_told told page.head ≡ page.pairs) (pages_of l.lists term)
+    (λ page there. ap (pairs_told told) there.1 ∙ pairs_told-written told page.head.at page.pairs there.0 there.2) (stand term)

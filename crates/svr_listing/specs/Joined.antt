@@ -6,6 +6,7 @@ use Rattle.svr_postpage.specs.declared.pair.Pair.{Pair}
 use Rattle.svr_listing.specs.Groups.{Group}
 use Rattle.svr_listing.specs.Listing.{Listing, descending, groups_by, keys_by, stands_by}
 
+-- whether an id is among others
 abbrev pub is_in : ℕ → List ℕ → Bool
 is_in id ids = list_any (λ other. other == id) ids
 
@@ -39,9 +40,11 @@ any_at key (list ∷ lists) = either (ids_at key list) (any_at key lists)
 abbrev pub keys_in : List (List Group) → List ℕ
 keys_in lists = descending (flat_map (λ list. map (λ group. group.key) list) lists)
 
+-- the groups of several lists put together: at each of their keys the ids that all of them have there
 abbrev pub groups_in_all : List (List Group) → List Group
 groups_in_all lists = map (λ key. record { key = key; ids = common_at key lists }) (keys_in lists)
 
+-- the same with the ids that at least one of them has there
 abbrev pub groups_in_any : List (List Group) → List Group
 groups_in_any lists = map (λ key. record { key = key; ids = any_at key lists }) (keys_in lists)
 

@@ -5,7 +5,8 @@ use Rattle.std.specs.Option.{option_map_or}
 use Rattle.svr_num.specs.declared.list_key.ListKey.{ListKey}
 use Rattle.svr_postpage.specs.declared.page_ref.PageRef.{PageRef}
 use Rattle.svr_postpage.specs.declared.pair.Pair.{Pair}
-use Rattle.svr_postpage.specs.Pairs.{first_pair, is_before}
+use Rattle.svr_postpage.specs.Pages.{bytes_at, page_bytes}
+use Rattle.svr_postpage.specs.Pairs.{fill_a_page, first_pair, is_before, ref_of}
 use Rattle.svr_listing.specs.Listing.{Document, Listing, Page, document_at, documents_of, entry_of, has_pair}
 use Rattle.svr_listing.specs.Listing.{has_term, pages_of, pairs_in, posted}
 use Rattle.svr_listing.specs.Merges.{Merge, is_after, new_key}
@@ -37,6 +38,11 @@ AreInOrder [] = ⊤
 AreInOrder (page ∷ []) = BeginsRight page
 AreInOrder (page ∷ next ∷ pages) =
     BeginsRight page × AllByRecursion (λ pair. is_before pair (first_pair next.head) ≡ true) page.pairs × AreInOrder (next ∷ pages)
+
+-- a page stands in bytes at its address
+abbrev pub StandsIn : List ℕ → Page → Type 0
+StandsIn told page =
+    (fill_a_page page.pairs ≡ true) × (page.head ≡ ref_of page.head.at page.pairs) × (bytes_at told page.head.at ≡ page_bytes page.pairs)
 
 -- every posted page is read as it was posted
 abbrev pub HoldsPosted : (PageRef → List Pair) → Listing → Type 0

@@ -39,7 +39,7 @@ has_term d term = list_any (bytes_eq term) d.terms
 abbrev pub document_at : List Document → ℕ → Option Document
 document_at documents id = find (λ d. d.id == id) documents
 
--- its score
+-- the score of the document with an id, if there is one
 abbrev pub score_in : List Document → ℕ → Option ℕ
 score_in documents id = option_map (λ d. d.score) (document_at documents id)
 
@@ -141,7 +141,7 @@ last_key l terms m k score = last_or None (take (visits_of l terms m k score) (k
 abbrev pub refs_of : Listing → List (List ℕ) → List PageRef
 refs_of l terms = flat_map (λ term. map (λ page. page.head) (pages_of l.lists term)) terms
 
--- those whose first key is not below the last key that is visited
+-- the needed pages of terms: those whose first key is not below the last key that is visited
 abbrev pub needed : Listing → List (List ℕ) → Mode → ℕ → (ℕ → Option ℕ) → List PageRef
 needed l terms m k score =
     filter (λ ref. option_map_or (λ key. nat_le key ref.key) (last_key l terms m k score) false) (refs_of l terms)

@@ -26,6 +26,7 @@ pub record Merge : Type 0 where
 abbrev pub new_key : Merge → ℕ → Option ℕ
 new_key m id = option_map (λ pair. pair.key) (find (λ pair. pair.id == id) m.keys)
 
+-- the begin of a merge: each document gets the key of its score, and nothing is sliced
 abbrev pub begin : Rules → List Document → Merge
 begin rules documents = record {
   rules = rules;
@@ -50,6 +51,7 @@ touched m before now = record {
 
 -- ---- slices
 
+-- one term stands before another in the order of bytes
 abbrev pub by_bytes : List ℕ → List ℕ → Bool
 by_bytes a b = is_lt (slice_cmp nat_cmp a b)
 
@@ -71,19 +73,20 @@ ascending (term ∷ terms) = insert_key (slice_cmp nat_cmp) (ascending terms) te
 abbrev pub all_terms : Listing → List (List ℕ)
 all_terms l = map (λ list. list.term) l.lists ++ flat_map (λ d. d.document.terms) l.documents
 
--- those that have a posted or a held pair
+-- the terms that have a posted or a held pair, ascending
 abbrev pub live_terms : Listing → List (List ℕ)
 live_terms l = ascending (filter (is_live l) (all_terms l))
 
--- those after the last sliced one
+-- the terms left: those after the last sliced one
 abbrev pub terms_left : Listing → Merge → List (List ℕ)
 terms_left l m = filter (is_after m.last) (live_terms l)
 
--- pairs in page order
+-- pairs in page order, with one more at its place
 abbrev pub with_pair : Pair → List Pair → List Pair
 with_pair pair [] = pair ∷ []
 with_pair pair (p ∷ ps) = if is_before pair p then pair ∷ p ∷ ps else p ∷ with_pair pair ps
 
+-- pairs in page order
 abbrev pub in_page_order : List Pair → List Pair
 in_page_order [] = []
 in_page_order (p ∷ ps) = with_pair p (in_page_order ps)
@@ -119,6 +122,7 @@ abbrev pub pages_from : (ℕ → ℕ) → ℕ → List (List Pair) → List Page
 pages_from place n [] = []
 pages_from place n (pairs ∷ more) = page_at (place n) pairs ∷ pages_from place (n + 1) more
 
+-- the pages of pairs, 255 in each, at their places counted on from n
 unfoldable pub pages_with : (ℕ → ℕ) → ℕ → List Pair → List Page
 pages_with place n pairs = pages_from place n (cut 255 (length pairs) pairs)
 
@@ -143,6 +147,7 @@ with_terms place stands l m n (term ∷ terms) =
 abbrev pub slice_by : (ℕ → ℕ) → (List ℕ → Listed → Bool) → Listing → Merge → ℕ → Merge
 slice_by place stands l m most = with_terms place stands l m 0 (take most (terms_left l m))
 
+-- a slice of so many terms at most, by the documents that stand under them in the listing
 abbrev pub sliced : (ℕ → ℕ) → Listing → Merge → ℕ → Merge
 sliced place l m most = slice_by place (is_effective l) l m most
 
@@ -158,9 +163,11 @@ abbrev pub entry_by : Rules → ℕ → Option ℕ → ListKey
 entry_by rules score None = moved_to rules score
 entry_by rules score (Some key) = record { key = key; moved = false }
 
+-- a document with its entry after a publish
 abbrev pub published_one : Merge → Listed → Listed
 published_one m d = record { document = d.document; entry = entry_by m.rules d.document.score (new_key m d.document.id) }
 
+-- the listing after a publish: the new rules, and the sliced pages in place of the posted ones
 abbrev pub published : Listing → Merge → Listing
 published l m = record { rules = m.rules; documents = map (published_one m) l.documents; lists = m.lists }
 

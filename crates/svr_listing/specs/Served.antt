@@ -8,6 +8,7 @@ use Rattle.svr_listing.specs.Methods.{AreLawful, Rules}
 use Rattle.std.specs.List.{AllByRecursion, fold}
 use Rattle.std.specs.Option.{ForSome}
 
+-- a listing, and a merge if one is begun
 pub record Served : Type 0 where
   pub listing : Listing
   pub merge : Option Merge
@@ -16,6 +17,7 @@ pub record Served : Type 0 where
 abbrev pub nothing_listed : Rules → Served
 nothing_listed rules = record { listing = record { rules = rules; documents = []; lists = [] }; merge = None }
 
+-- what may happen to them
 pub data Event : Type 0 where
   -- a change, by the documents that stand after it
   change : List Document → Event
@@ -25,10 +27,12 @@ pub data Event : Type 0 where
   merge_publish : Event
   merge_forgotten : Event
 
+-- the listing after a publish, if a merge is begun
 abbrev pub published_with : Listing → Option Merge → Listing
 published_with l None = l
 published_with l (Some m) = published l m
 
+-- a listing with its merge after an event
 abbrev pub after : Served → Event → Served
 after s (change now) = record {
   listing = changed s.listing now;
@@ -65,8 +69,10 @@ pub record IsServed (tokens : List ℕ → List (List ℕ)) (s : Served) : Type 
 abbrev pub after_all : Served → List Event → Served
 after_all s events = fold after s events
 
+-- the documents that stand after events
 abbrev pub documents_after_all : List Document → List Event → List Document
 documents_after_all documents events = fold documents_after documents events
 
+-- what each of the events brings
 abbrev pub AllBring : (List ℕ → List (List ℕ)) → List Event → Type 0
 AllBring tokens events = AllByRecursion (Brings tokens) events

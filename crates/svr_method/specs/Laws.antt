@@ -6,6 +6,7 @@ use Rattle.std.proofs.lemmas.Nat.{le-div}
 use Rattle.std.proofs.lemmas.Bool.{leb-true, le-leb}
 use Rattle.svr_listing.specs.Methods.{AreLawful, id_rules, score_rules, threshold_rules}
 
+-- a document listed at 0 always stays
 pub id_lawful : AreLawful id_rules
 id_lawful = record {
   stays_at_own = λ score low. refl;
@@ -13,6 +14,7 @@ id_lawful = record {
   bounds_rise = λ key other up. omega arith;
 }
 
+-- a document listed at its score stays at it alone
 pub score_lawful : AreLawful score_rules
 score_lawful = record {
   stays_at_own = λ score low. grind (arith, nat_tests);
@@ -26,6 +28,7 @@ div_rises key other num den one up =
     (let low : key * num / den * den ≤ key * num = div-mul-le_self (key * num) den in
     let high : num * key ≤ num * other = mul-le-mul_left num up in omega arith)
 
+-- a ratio of at least 1 keeps the laws
 pub threshold_lawful : (num den : ℕ) → 1 ≤ den → den ≤ num → AreLawful (threshold_rules num den)
 threshold_lawful num den one le = record {
   stays_at_own = λ score low.
