@@ -14,7 +14,7 @@ mod pages;
 mod visits;
 
 pub use document::{Document, Listed};
-pub use group::Group;
+pub use group::{Group, are_ordered};
 pub use hits::{best_of_groups, found, hits_of, ids_in};
 pub use joined::{groups_in_all, groups_in_any};
 pub use listing::PlainListing;
