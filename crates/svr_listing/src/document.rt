@@ -2,7 +2,7 @@ use svr_edge::{Items, Text};
 use svr_num::{DocId, ListKey, Score};
 
 /// A document: what its row says of it.
-#[derive(Debug, Drop)]
+#[derive(Drop)]
 pub struct Document {
     pub id: DocId,
     pub score: Score,
@@ -12,7 +12,7 @@ pub struct Document {
 }
 
 /// A document with its entry.
-#[derive(Debug, Drop)]
+#[derive(Drop)]
 pub struct Listed {
     pub document: Document,
     pub entry: ListKey,

@@ -7,7 +7,7 @@ use svr_edge::Items;
 use svr_num::{DocId, SCORE_MAX};
 
 /// The ids at one key.
-#[derive(Debug, Drop)]
+#[derive(Drop)]
 pub struct Group {
     /// Below 2^48.
     pub key: u64,

@@ -17,7 +17,7 @@ use svr_num::{DocId, Mode};
 use svr_postpage::Pair;
 
 /// Documents with their entries, and the posted pages of terms, under a method.
-#[derive(Debug, Drop)]
+#[derive(Drop)]
 pub struct PlainListing {
     pub method: ListingMethod,
     /// In ascending order of id.

@@ -6,7 +6,7 @@ use svr_edge::Items;
 use svr_num::{SCORE_MAX, Score};
 
 /// By which key documents are listed.
-#[derive(Debug, Drop)]
+#[derive(Drop)]
 pub enum ListingMethod {
     /// Each at the key 0.
     Id,
