@@ -1,9 +1,11 @@
 //! What no session shows of the crates below requests: sources and sinks in memory call by call, texts and lists, lines of
-//! an input of which few bytes may be taken, and exact numbers at their ends.
+//! an input of which few bytes may be taken, searches of a plain listing, and exact numbers at their ends.
 #![tactic(auto)]
 
 #[cfg(test)]
 mod lines;
+#[cfg(test)]
+mod listing;
 #[cfg(test)]
 mod numbers;
 #[cfg(test)]

@@ -1,0 +1,12 @@
+pub mod Bounds
+pub mod Changes
+pub mod Groups
+pub mod Joined
+pub mod Kept
+pub mod Layout
+pub mod Listing
+pub mod Merges
+pub mod Methods
+pub mod Plain
+pub mod Served
+pub mod Visits
