@@ -1,7 +1,7 @@
 -- Which of several lists have the greatest key, and what taking its group does to one of them.
 use Rattle.std.proofs.Common.{◌≡◌, ℕ, ◌<◌, ◌^◌, ◌==◌, ◌||◌, Bool, true, false, List, [], ◌∷◌, map, filter, max, Option, Some, None, unwrap_or, refl, ap, sym, subst, ◌∙◌, arith}
 use Rattle.std.specs.List.{AllByRecursion}
-use Rattle.std.specs.Option.{ForSome}
+use Rattle.std.specs.Option.{option_eq}
 use Rattle.std.proofs.lemmas.Bool.Decides.{nat_tests}
 use Rattle.svr_postpage.specs.declared.page_ref.PageRef.{PageRef}
 use Rattle.svr_listing.specs.Groups.{AreGroups, IsGroup}
@@ -57,6 +57,10 @@ not_next key (Some x) e up = less
   where
     less : x < key
     less = grind (arith, nat_tests)
+
+pub is_next-eq : (key : ℕ) (o : Option ℕ) → option_eq (λ a b. a == b) o (Some key) ≡ is_next key o
+is_next-eq key None = refl
+is_next-eq key (Some x) = refl
 
 pub is_next-some : (key : ℕ) (o : Option ℕ) → is_next key o ≡ true → o ≡ Some key
 is_next-some key None e = absurd (cc)
