@@ -1,5 +1,6 @@
 -- The bytes of a page.
-use Rattle.std.specs.Prelude.{ℕ, zero, suc, ◌+◌, ◌-◌, ◌*◌, ◌&&◌, List, [], ◌∷◌, ◌++◌, length, take, drop, replicate, slice_range, Option, None, Some, if◌then◌else◌}
+use Rattle.std.specs.Prelude.{ℕ, zero, suc, ◌+◌, ◌-◌, ◌*◌, ◌&&◌, List, [], ◌∷◌, ◌++◌, length, take, drop, replicate, slice_range}
+use Rattle.std.specs.Prelude.{Option, None, Some, if◌then◌else◌}
 use Rattle.std.specs.Int.{from_be_bytes, to_be_bytes, w16, w64}
 use Rattle.std.specs.List.{flat_map}
 use Rattle.std.specs.Str.{bytes_eq}
@@ -12,7 +13,8 @@ pair_bytes pair = to_be_bytes w64 pair.key ++ to_be_bytes w64 pair.id
 
 -- the 4,096 bytes of a page: the number of its pairs in two bytes, two zeros, the pairs, and zeros behind them
 unfoldable pub page_bytes : List Pair → List ℕ
-page_bytes pairs = to_be_bytes w16 (length pairs) ++ (replicate 2 0 ++ (flat_map pair_bytes pairs ++ replicate (4092 - 16 * length pairs) 0))
+page_bytes pairs =
+    to_be_bytes w16 (length pairs) ++ (replicate 2 0 ++ (flat_map pair_bytes pairs ++ replicate (4092 - 16 * length pairs) 0))
 
 -- the pair that the first 16 bytes are
 abbrev pub pair_in : List ℕ → Pair

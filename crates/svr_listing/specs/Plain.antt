@@ -1,0 +1,17 @@
+-- What the plain program's values stand for.
+use Rattle.std.specs.Prelude.{◌≤◌, ⊤}
+use Rattle.svr_listing.specs.Methods.{Rules, chunk_rules, id_rules, score_rules, threshold_rules}
+use Rattle.svr_listing.specs.declared.method.ListingMethod.{ListingMethod}
+use Rattle.svr_listing.specs.declared.method.ListingMethod.TheVariants as method
+
+-- the rules of a method
+abbrev pub rules_of : ListingMethod → Rules
+rules_of method.Id = id_rules
+rules_of method.Score = score_rules
+rules_of (method.Threshold num den) = threshold_rules num den
+rules_of (method.Chunk bounds) = chunk_rules bounds
+
+-- the ratio of a threshold has a divisor
+abbrev pub HasDivisor : ListingMethod → Type 0
+HasDivisor (method.Threshold num den) = 1 ≤ den
+HasDivisor _ = ⊤
