@@ -17,14 +17,17 @@ up_to_greater (Some x) None key up = (up, tt)
 up_to_greater (Some x) (Some y) key up = (omega arith, omega arith)
 
 -- no next key is above the greatest
-pub all_up_to : {P : Type 0} (next : P → Option ℕ) (key : ℕ) (ps : List P) → IsUpTo key (greatest (map next ps)) → AllByRecursion (λ p. IsUpTo key (next p)) ps
+pub all_up_to : {P : Type 0} (next : P → Option ℕ) (key : ℕ) (ps : List P) → IsUpTo key (greatest (map next ps))
+    → AllByRecursion (λ p. IsUpTo key (next p)) ps
 all_up_to next key [] up = tt
-all_up_to next key (p ∷ ps) up = let both = up_to_greater (next p) (greatest (map next ps)) key up in (both.0, all_up_to next key ps both.1)
+all_up_to next key (p ∷ ps) up = let both = up_to_greater (next p) (greatest (map next ps)) key up in
+    (both.0, all_up_to next key ps both.1)
 
 pub up_to_own : (key : ℕ) (o : Option ℕ) → Some key ≡ o → IsUpTo key o
 up_to_own key o e = subst (IsUpTo key) e (omega arith)
 
-pub one_is : (a b : Option ℕ) (key : ℕ) (found : Bool) → greater a b ≡ Some key → (b ≡ Some key → found ≡ true) → (is_next key a || found) ≡ true
+pub one_is : (a b : Option ℕ) (key : ℕ) (found : Bool) → greater a b ≡ Some key → (b ≡ Some key → found ≡ true)
+    → (is_next key a || found) ≡ true
 one_is None b key found e rest = rest e
 one_is (Some x) None key found e rest = let same : x ≡ key = cc in rw same (or_left _ _ (eq_self key))
 one_is (Some x) (Some y) key found e rest = by_most (x == key) refl
@@ -36,7 +39,8 @@ one_is (Some x) (Some y) key found e rest = by_most (x == key) refl
         let same : y ≡ key = grind (arith, nat_tests) in
         or_right _ _ (rest (ap Some same))
 
-pub below_key : (may : ℕ → ℕ → Bool) (next : Option ℕ) (key : ℕ) (gs : List Group) → AreGroups may next gs → IsLess next (Some key) → AllByRecursion (λ group. group.key < key) gs
+pub below_key : (may : ℕ → ℕ → Bool) (next : Option ℕ) (key : ℕ) (gs : List Group) → AreGroups may next gs → IsLess next (Some key)
+    → AllByRecursion (λ group. group.key < key) gs
 below_key may next key [] are less = tt
 below_key may next key (g ∷ gs) are less =
     let first : IsLess (Some g.key) (Some key) = subst (λ (o : Option ℕ). IsLess o (Some key)) (sym are.begin) less in
@@ -73,8 +77,10 @@ empty_at may key lt = record {
 }
 
 -- a list that has the key gives its group of it
-pub took_at : {S : Type 0} (groups : S → List ℕ → List Group) (next : S → Option ℕ) (may : S → ℕ → ℕ → Bool) (pages : S → ℕ → List PageRef) (told : Option (List ℕ))
-    (key : ℕ) (old new : S) (ids : List ℕ) → next old ≡ Some key → TakesGroup groups next may pages told old new ids → TakesAt groups next may pages told key old new ids
+pub took_at : {S : Type 0} (groups : S → List ℕ → List Group) (next : S → Option ℕ) (may : S → ℕ → ℕ → Bool)
+    (pages : S → ℕ → List PageRef) (told : Option (List ℕ))
+    (key : ℕ) (old new : S) (ids : List ℕ) → next old ≡ Some key → TakesGroup groups next may pages told old new ids
+    → TakesAt groups next may pages told key old new ids
 took_at {S} groups next may pages told key old new ids e takes = record {
   taken = λ bytes at. rw (took, ← same) (takes.first bytes at);
   none = λ f. (let no : true ≡ false = sym took ∙ f in absurd (cc));
@@ -91,8 +97,10 @@ took_at {S} groups next may pages told key old new ids e takes = record {
     same = ap (λ (o : Option ℕ). unwrap_or o 0) e
 
 -- one that has it not stays
-pub stays_at : {S : Type 0} (groups : S → List ℕ → List Group) (next : S → Option ℕ) (may : S → ℕ → ℕ → Bool) (pages : S → ℕ → List PageRef) (told : Option (List ℕ))
-    (key : ℕ) (list : S) (ids : List ℕ) → is_next key (next list) ≡ false → IsUpTo key (next list) → key < 2 ^ 48 → ids ≡ [] → TakesAt groups next may pages told key list list ids
+pub stays_at : {S : Type 0} (groups : S → List ℕ → List Group) (next : S → Option ℕ) (may : S → ℕ → ℕ → Bool)
+    (pages : S → ℕ → List PageRef) (told : Option (List ℕ))
+    (key : ℕ) (list : S) (ids : List ℕ) → is_next key (next list) ≡ false → IsUpTo key (next list) → key < 2 ^ 48 → ids ≡ []
+    → TakesAt groups next may pages told key list list ids
 stays_at groups next may pages told key list ids e up fits none = record {
   taken = λ bytes at. rw e refl;
   none = λ f. none;
@@ -102,7 +110,8 @@ stays_at groups next may pages told key list ids e up fits none = record {
   same_pages = λ k lt. refl;
 }
 
-pub kept_at : {S : Type 0} (groups : S → List ℕ → List Group) (next : S → Option ℕ) (may : S → ℕ → ℕ → Bool) (pages : S → ℕ → List PageRef) (told : Option (List ℕ))
+pub kept_at : {S : Type 0} (groups : S → List ℕ → List Group) (next : S → Option ℕ) (may : S → ℕ → ℕ → Bool)
+    (pages : S → ℕ → List PageRef) (told : Option (List ℕ))
     (key : ℕ) (old new : S) (before after : List ℕ) → next old ≡ Some key → KeepsGroup groups next may pages told old new before after
     → KeepsAt groups next may pages told key old new before after
 kept_at groups next may pages told key old new before after e keeps =
@@ -113,7 +122,8 @@ none_kept [] = refl
 none_kept (x ∷ xs) = none_kept xs
 
 -- and leaves none
-pub none_at : {S : Type 0} (groups : S → List ℕ → List Group) (next : S → Option ℕ) (may : S → ℕ → ℕ → Bool) (pages : S → ℕ → List PageRef) (told : Option (List ℕ))
+pub none_at : {S : Type 0} (groups : S → List ℕ → List Group) (next : S → Option ℕ) (may : S → ℕ → ℕ → Bool)
+    (pages : S → ℕ → List PageRef) (told : Option (List ℕ))
     (key : ℕ) (list : S) (before after : List ℕ) → is_next key (next list) ≡ false → IsUpTo key (next list) → key < 2 ^ 48 → after ≡ []
     → KeepsAt groups next may pages told key list list before after
 none_at groups next may pages told key list before after e up fits none =

@@ -30,7 +30,8 @@ heads {p} {all} {ids} {at} {kept} are lt =
     let lt' : at < length ids = omega (arith, are.same_length) in
     sym (drop_at ids at lt') ∙ are.rest ∙ drop_at all at lt
 
-pub AreKept-id : {p : ℕ → Bool} {all ids : List ℕ} {at kept : ℕ} → AreKept p all at kept ids → at < length all → slice_index ids at ≡ slice_index all at
+pub AreKept-id : {p : ℕ → Bool} {all ids : List ℕ} {at kept : ℕ} → AreKept p all at kept ids → at < length all
+    → slice_index ids at ≡ slice_index all at
 AreKept-id {p} {all} {ids} {at} {kept} are lt = first_same _ _ _ _ (heads are lt)
 
 take_one : (p : ℕ → Bool) (all : List ℕ) (at : ℕ) (b : Bool) → at < length all → p (slice_index all at) ≡ b
@@ -49,8 +50,10 @@ length-set (x ∷ xs) zero y = refl
 length-set (x ∷ xs) (suc i) y = ap suc (length-set xs i y)
 
 -- one id more was looked at
-pub AreKept-more : {p : ℕ → Bool} {all ids : List ℕ} {at kept : ℕ} → AreKept p all at kept ids → at < length all → (passed : Bool) (count : ℕ) (now : List ℕ)
-    → passed ≡ p (slice_index all at) → count ≡ cond passed (kept + 1) kept → now ≡ cond passed (set ids kept (slice_index ids at)) ids → AreKept p all (at + 1) count now
+pub AreKept-more : {p : ℕ → Bool} {all ids : List ℕ} {at kept : ℕ} → AreKept p all at kept ids → at < length all
+    → (passed : Bool) (count : ℕ) (now : List ℕ)
+    → passed ≡ p (slice_index all at) → count ≡ cond passed (kept + 1) kept → now ≡ cond passed (set ids kept (slice_index ids at)) ids
+    → AreKept p all (at + 1) count now
 AreKept-more {p} {all} {ids} {at} {kept} are lt true count now e f g =
     let few = are.few in
     let same = are.same_length in
@@ -78,7 +81,8 @@ take_all zero (x ∷ xs) le = absurd (omega arith)
 take_all (suc n) [] le = refl
 take_all (suc n) (x ∷ xs) le = ap (λ (l : List ℕ). x ∷ l) (take_all n xs (omega arith))
 
-pub AreKept-end : {p : ℕ → Bool} {all ids : List ℕ} {at kept : ℕ} → AreKept p all at kept ids → length all ≤ at → take kept ids ≡ filter p all
+pub AreKept-end : {p : ℕ → Bool} {all ids : List ℕ} {at kept : ℕ} → AreKept p all at kept ids → length all ≤ at
+    → take kept ids ≡ filter p all
 AreKept-end {p} {all} {ids} {at} {kept} are le = are.front ∙ ap (filter p) (take_all at all le)
 
 -- ---- the place of the next id among others
@@ -91,10 +95,12 @@ pub record IsPassed (others : List ℕ) (place : ℕ) (all : List ℕ) (at : ℕ
 pub IsPassed-start : (others all : List ℕ) → IsPassed others 0 all 0
 IsPassed-start others all = record { within = omega arith; below = λ j lt. absurd (omega arith) }
 
-pub IsPassed-more : {others all : List ℕ} {place at : ℕ} → IsStrictlyIncreasing all → at < length all → IsPlaceOf (slice_index all at) others place → IsPassed others place all (at + 1)
+pub IsPassed-more : {others all : List ℕ} {place at : ℕ} → IsStrictlyIncreasing all → at < length all
+    → IsPlaceOf (slice_index all at) others place → IsPassed others place all (at + 1)
 IsPassed-more {others} {all} {place} {at} up lt is = record {
   within = is.within;
-  below = λ j low more. (let first : slice_index others j < slice_index all at = is.below j low in let next : slice_index all at < slice_index all (at + 1) = up at more in omega arith);
+  below = λ j low more. (let first : slice_index others j < slice_index all at =
+      is.below j low in let next : slice_index all at < slice_index all (at + 1) = up at more in omega arith);
 }
 
 pub rises : (xs : List ℕ) → IsStrictlyIncreasing xs → (j k : ℕ) → j ≤ k → k < length xs → slice_index xs j ≤ slice_index xs k

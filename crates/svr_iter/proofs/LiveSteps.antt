@@ -41,23 +41,29 @@ posted_first entry key x xs ms a =
     ∙ ap (λ (o : Option Mark). kept entry key x o ++ live_ids entry key ms xs) (no_mark x ms a)
 
 marked_tail : (entry : ℕ → Option ListKey) (key : ℕ) (m : Marked) (ms : List Marked) (xs : List ℕ) → Above m.id (either (ids_of ms) xs)
-    → filter (λ id. stands (entry id) key (mark_of id (m ∷ ms))) (m.id ∷ either (ids_of ms) xs) ≡ kept entry key m.id (Some m.mark) ++ live_ids entry key ms xs
+    → filter (λ id. stands (entry id) key (mark_of id (m ∷ ms))) (m.id ∷ either (ids_of ms) xs)
+    ≡ kept entry key m.id (Some m.mark) ++ live_ids entry key ms xs
 marked_tail entry key m ms xs a =
     filter_first (λ id. stands (entry id) key (mark_of id (m ∷ ms))) m.id (either (ids_of ms) xs)
-    ∙ ap (λ (b : Bool). kept entry key m.id (cond b (Some m.mark) (mark_of m.id ms)) ++ filter (λ id. stands (entry id) key (mark_of id (m ∷ ms))) (either (ids_of ms) xs)) (eq_self m.id)
+    ∙ ap (λ (b : Bool). kept entry key m.id (cond b (Some m.mark) (mark_of m.id ms)) ++ filter
+    (λ id. stands (entry id) key (mark_of id (m ∷ ms))) (either (ids_of ms) xs)) (eq_self m.id)
     ∙ ap (λ (l : List ℕ). kept entry key m.id (Some m.mark) ++ l) (past_mark entry key m ms (either (ids_of ms) xs) a)
 
-marked_first : (entry : ℕ → Option ListKey) (key : ℕ) (m : Marked) (ms : List Marked) (xs : List ℕ) → Above m.id (ids_of ms) → Above m.id xs
+marked_first : (entry : ℕ → Option ListKey) (key : ℕ) (m : Marked) (ms : List Marked) (xs : List ℕ) → Above m.id (ids_of ms)
+    → Above m.id xs
     → live_ids entry key (m ∷ ms) xs ≡ kept entry key m.id (Some m.mark) ++ live_ids entry key ms xs
 marked_first entry key m ms xs up a =
     let above = all-either (λ id. m.id < id) (ids_of ms) xs up a in
-    ap (filter (λ id. stands (entry id) key (mark_of id (m ∷ ms)))) (with_id-first m.id (either (ids_of ms) xs) above) ∙ marked_tail entry key m ms xs above
+    ap (filter (λ id. stands (entry id) key (mark_of id (m ∷ ms)))) (with_id-first m.id (either (ids_of ms) xs) above)
+        ∙ marked_tail entry key m ms xs above
 
-both_first : (entry : ℕ → Option ListKey) (key x : ℕ) (m : Marked) (ms : List Marked) (xs : List ℕ) → m.id ≡ x → Above m.id (ids_of ms) → Up (ids_of ms) → Above x xs
+both_first : (entry : ℕ → Option ListKey) (key x : ℕ) (m : Marked) (ms : List Marked) (xs : List ℕ) → m.id ≡ x → Above m.id (ids_of ms)
+    → Up (ids_of ms) → Above x xs
     → live_ids entry key (m ∷ ms) (x ∷ xs) ≡ kept entry key m.id (Some m.mark) ++ live_ids entry key ms xs
 both_first entry key x m ms xs e up rest a =
     let above = all-either (λ id. m.id < id) (ids_of ms) xs up (subst (λ (n : ℕ). Above n xs) (sym e) a) in
-    ap (filter (λ id. stands (entry id) key (mark_of id (m ∷ ms)))) (first_both m.id x (ids_of ms) xs (up, rest) e) ∙ marked_tail entry key m ms xs above
+    ap (filter (λ id. stands (entry id) key (mark_of id (m ∷ ms)))) (first_both m.id x (ids_of ms) xs (up, rest) e)
+        ∙ marked_tail entry key m ms xs above
 
 pub drop_mark : (ms : List Marked) (j : ℕ) (d : Marked) → j < length ms → drop j ms ≡ get_or ms j d ∷ drop (j + 1) ms
 drop_mark [] j d lt = absurd (omega arith)
@@ -80,16 +86,19 @@ Up-marks (suc j) (m ∷ ms) up = Up-marks j ms up.1
 step : (so all rest rest' new : List ℕ) → so ++ rest ≡ all → rest ≡ new ++ rest' → (so ++ new) ++ rest' ≡ all
 step so all rest rest' new e first = append_assoc so new rest' ∙ sym (ap (λ (l : List ℕ). so ++ l) first) ∙ e
 
-pub step_posted : (entry : ℕ → Option ListKey) (key : ℕ) (so all xs : List ℕ) (ms : List Marked) (i j : ℕ) (d : Marked) → Up (ids_of ms) → i < length xs → j < length ms
+pub step_posted : (entry : ℕ → Option ListKey) (key : ℕ) (so all xs : List ℕ) (ms : List Marked) (i j : ℕ) (d : Marked) → Up (ids_of ms)
+    → i < length xs → j < length ms
     → slice_index xs i < (get_or ms j d).id → so ++ live_ids entry key (drop j ms) (drop i xs) ≡ all
     → (so ++ kept entry key (slice_index xs i) None) ++ live_ids entry key (drop j ms) (drop (i + 1) xs) ≡ all
 step_posted entry key so all xs ms i j d up li lj lt e =
     step so all _ _ _ e (
     let marks = subst (λ (l : List Marked). Up (ids_of l)) (drop_mark ms j d lj) (Up-marks j ms up) in
     rw (drop_at xs i li, drop_mark ms j d lj)
-    (posted_first entry key (slice_index xs i) (drop (i + 1) xs) (get_or ms j d ∷ drop (j + 1) ms) (lt, above-less _ _ (ids_of (drop (j + 1) ms)) lt marks.0)))
+    (posted_first entry key (slice_index xs i) (drop (i + 1) xs) (get_or ms j d ∷ drop (j + 1) ms)
+    (lt, above-less _ _ (ids_of (drop (j + 1) ms)) lt marks.0)))
 
-pub step_marked : (entry : ℕ → Option ListKey) (key : ℕ) (so all xs : List ℕ) (ms : List Marked) (i j : ℕ) (d : Marked) → Up (ids_of ms) → IsStrictlyIncreasing xs → i < length xs → j < length ms
+pub step_marked : (entry : ℕ → Option ListKey) (key : ℕ) (so all xs : List ℕ) (ms : List Marked) (i j : ℕ) (d : Marked) → Up (ids_of ms)
+    → IsStrictlyIncreasing xs → i < length xs → j < length ms
     → (get_or ms j d).id < slice_index xs i → so ++ live_ids entry key (drop j ms) (drop i xs) ≡ all
     → (so ++ kept entry key (get_or ms j d).id (Some (get_or ms j d).mark)) ++ live_ids entry key (drop (j + 1) ms) (drop i xs) ≡ all
 step_marked entry key so all xs ms i j d up rise li lj lt e =
@@ -97,11 +106,14 @@ step_marked entry key so all xs ms i j d up rise li lj lt e =
     let marks = subst (λ (l : List Marked). Up (ids_of l)) (drop_mark ms j d lj) (Up-marks j ms up) in
     let ids = subst Up (drop_at xs i li) (Up-drop i xs (Up-from xs rise)) in
     rw (drop_at xs i li, drop_mark ms j d lj)
-    (marked_first entry key (get_or ms j d) (drop (j + 1) ms) (slice_index xs i ∷ drop (i + 1) xs) marks.0 (lt, above-less _ _ (drop (i + 1) xs) lt ids.0)))
+    (marked_first entry key (get_or ms j d) (drop (j + 1) ms) (slice_index xs i ∷ drop (i + 1) xs) marks.0
+    (lt, above-less _ _ (drop (i + 1) xs) lt ids.0)))
 
-pub step_both : (entry : ℕ → Option ListKey) (key : ℕ) (so all xs : List ℕ) (ms : List Marked) (i j : ℕ) (d : Marked) → Up (ids_of ms) → IsStrictlyIncreasing xs → i < length xs → j < length ms
+pub step_both : (entry : ℕ → Option ListKey) (key : ℕ) (so all xs : List ℕ) (ms : List Marked) (i j : ℕ) (d : Marked) → Up (ids_of ms)
+    → IsStrictlyIncreasing xs → i < length xs → j < length ms
     → (get_or ms j d).id ≡ slice_index xs i → so ++ live_ids entry key (drop j ms) (drop i xs) ≡ all
-    → (so ++ kept entry key (get_or ms j d).id (Some (get_or ms j d).mark)) ++ live_ids entry key (drop (j + 1) ms) (drop (i + 1) xs) ≡ all
+    → (so ++ kept entry key (get_or ms j d).id (Some (get_or ms j d).mark)) ++ live_ids entry key (drop (j + 1) ms) (drop (i + 1) xs)
+    ≡ all
 step_both entry key so all xs ms i j d up rise li lj same e =
     step so all _ _ _ e (
     let marks = subst (λ (l : List Marked). Up (ids_of l)) (drop_mark ms j d lj) (Up-marks j ms up) in
@@ -109,20 +121,26 @@ step_both entry key so all xs ms i j d up rise li lj same e =
     rw (drop_at xs i li, drop_mark ms j d lj)
     (both_first entry key (slice_index xs i) (get_or ms j d) (drop (j + 1) ms) (drop (i + 1) xs) same marks.0 marks.1 ids.0))
 
-pub only_posted : (entry : ℕ → Option ListKey) (key : ℕ) (so all xs : List ℕ) (i : ℕ) → i < length xs → so ++ live_ids entry key [] (drop i xs) ≡ all
+pub only_posted : (entry : ℕ → Option ListKey) (key : ℕ) (so all xs : List ℕ) (i : ℕ) → i < length xs
+    → so ++ live_ids entry key [] (drop i xs) ≡ all
     → (so ++ kept entry key (slice_index xs i) None) ++ live_ids entry key [] (drop (i + 1) xs) ≡ all
 only_posted entry key so all xs i li e =
     step so all _ _ _ e (rw (drop_at xs i li) (posted_first entry key (slice_index xs i) (drop (i + 1) xs) [] tt))
 
-pub only_marked : (entry : ℕ → Option ListKey) (key : ℕ) (so all : List ℕ) (ms : List Marked) (j : ℕ) (d : Marked) → Up (ids_of ms) → j < length ms → so ++ live_ids entry key (drop j ms) [] ≡ all
+pub only_marked : (entry : ℕ → Option ListKey) (key : ℕ) (so all : List ℕ) (ms : List Marked) (j : ℕ) (d : Marked) → Up (ids_of ms)
+    → j < length ms → so ++ live_ids entry key (drop j ms) [] ≡ all
     → (so ++ kept entry key (get_or ms j d).id (Some (get_or ms j d).mark)) ++ live_ids entry key (drop (j + 1) ms) [] ≡ all
 only_marked entry key so all ms j d up lj e =
     step so all _ _ _ e (
     let marks = subst (λ (l : List Marked). Up (ids_of l)) (drop_mark ms j d lj) (Up-marks j ms up) in
     rw (drop_mark ms j d lj) (marked_first entry key (get_or ms j d) (drop (j + 1) ms) [] marks.0 tt))
 
-pub ends_posted : (entry : ℕ → Option ListKey) (key : ℕ) (so all xs : List ℕ) (i : ℕ) → length xs ≤ i → so ++ live_ids entry key [] (drop i xs) ≡ all → so ≡ all
-ends_posted entry key so all xs i le e = sym (append-nil so) ∙ sym (ap (λ (l : List ℕ). so ++ live_ids entry key [] l) (drop_past xs i le)) ∙ e
+pub ends_posted : (entry : ℕ → Option ListKey) (key : ℕ) (so all xs : List ℕ) (i : ℕ) → length xs ≤ i
+    → so ++ live_ids entry key [] (drop i xs) ≡ all → so ≡ all
+ends_posted entry key so all xs i le e = sym (append-nil so)
+    ∙ sym (ap (λ (l : List ℕ). so ++ live_ids entry key [] l) (drop_past xs i le)) ∙ e
 
-pub ends_marked : (entry : ℕ → Option ListKey) (key : ℕ) (so all : List ℕ) (ms : List Marked) (j : ℕ) → length ms ≤ j → so ++ live_ids entry key (drop j ms) [] ≡ all → so ≡ all
-ends_marked entry key so all ms j le e = sym (append-nil so) ∙ sym (ap (λ (l : List Marked). so ++ live_ids entry key l []) (drop_marks ms j le)) ∙ e
+pub ends_marked : (entry : ℕ → Option ListKey) (key : ℕ) (so all : List ℕ) (ms : List Marked) (j : ℕ) → length ms ≤ j
+    → so ++ live_ids entry key (drop j ms) [] ≡ all → so ≡ all
+ends_marked entry key so all ms j le e = sym (append-nil so)
+    ∙ sym (ap (λ (l : List Marked). so ++ live_ids entry key l []) (drop_marks ms j le)) ∙ e

@@ -2,7 +2,7 @@
 use Rattle.std.proofs.Common.{◌≡◌, ℕ, zero, suc, ◌+◌, ◌<◌, ◌≤◌, ◌^◌, Bool, List, [], ◌∷◌, length, get_or, drop, Option, Some, None, unwrap_or, refl, ap, sym, subst, ◌∙◌, arith, add-one}
 use Rattle.std.specs.List.{AllByRecursion}
 use Rattle.std.specs.Option.{IsSome}
-use Rattle.svr_listing.specs.Groups.{AreGroups, Descends, IsGroup, first_key}
+use Rattle.svr_listing.specs.Groups.{AreGroups, Descends, IsGroup, IsOrdered, first_key}
 use Rattle.svr_listing.specs.declared.group.Group.{Group}
 use Rattle.svr_iter.specs.Taking.{IsLess, TakesGroup}
 
@@ -12,9 +12,11 @@ first_key-none [] (suc i) le = refl
 first_key-none (p ∷ ps) zero le = absurd (omega arith)
 first_key-none (p ∷ ps) (suc i) le = first_key-none ps i (omega arith)
 
-pub key_within : (may : ℕ → ℕ → Bool) (next : Option ℕ) (groups : List Group) (key : ℕ) → AreGroups may next groups → Some key ≡ next → key < 2 ^ 48
+pub key_within : (may : ℕ → ℕ → Bool) (next : Option ℕ) (groups : List Group) (key : ℕ) → AreGroups may next groups → Some key ≡ next
+    → key < 2 ^ 48
 key_within may next [] key are e = let no : None ≡ Some key = are.begin ∙ sym e in absurd (cc)
-key_within may next (g ∷ gs) key are e = let same : Some g.key ≡ Some key = are.begin ∙ sym e in let k : g.key ≡ key = cc in omega (arith, are.each.0.ordered.key_fits)
+key_within may next (g ∷ gs) key are e = let same : Some g.key ≡ Some key = are.begin ∙ sym e in let k : g.key ≡ key =
+    cc in omega (arith, are.each.0.ordered.key_fits)
 
 pub some_left : (given : List Group) (i : ℕ) → IsSome (first_key (drop i given)) → i < length given
 some_left [] zero h = absurd (cc)
@@ -34,7 +36,8 @@ first_key-some given i d lt = sym (ap first_key (taken given i d lt))
 pub first_of : (groups rest : List Group) (group : Group) → groups ≡ group ∷ rest → unwrap_or (first_key groups) 0 ≡ group.key
 first_of groups rest group e = rw e refl
 
-pub less_from : (may : ℕ → ℕ → Bool) (next : Option ℕ) (groups rest : List Group) (group : Group) → AreGroups may next groups → groups ≡ group ∷ rest
+pub less_from : (may : ℕ → ℕ → Bool) (next : Option ℕ) (groups rest : List Group) (group : Group) → AreGroups may next groups
+    → groups ≡ group ∷ rest
     → IsLess (first_key rest) (first_key groups)
 less_from may next groups rest group are e = descends (subst (λ (l : List Group). Descends l) e are.descend)
   where
@@ -45,11 +48,13 @@ less_from may next groups rest group are e = descends (subst (λ (l : List Group
         below [] a = tt
         below (x ∷ xs) a = a.0
 
-pub is_group : (may : ℕ → ℕ → Bool) (next : Option ℕ) (groups rest : List Group) (group : Group) → AreGroups may next groups → groups ≡ group ∷ rest → IsGroup may group
+pub is_group : (may : ℕ → ℕ → Bool) (next : Option ℕ) (groups rest : List Group) (group : Group) → AreGroups may next groups
+    → groups ≡ group ∷ rest → IsGroup may group
 is_group may next groups rest group are e = (subst (λ (l : List Group). AllByRecursion (IsGroup may) l) e are.each).0
 
 -- the group that was taken, as it was read
-pub taken_as : (given : List Group) (i : ℕ) (group : Group) (ids : List ℕ) → i < length given → group ≡ get_or given i group → ids ≡ group.ids
+pub taken_as : (given : List Group) (i : ℕ) (group : Group) (ids : List ℕ) → i < length given → group ≡ get_or given i group
+    → ids ≡ group.ids
     → drop i given ≡ record { key = unwrap_or (first_key (drop i given)) 0; ids = ids } ∷ drop (i + 1) given
 taken_as given i group ids lt e same =
     let first : drop i given ≡ group ∷ drop (i + 1) given = taken given i group lt ∙ ap (λ (g : Group). g ∷ drop (i + 1) given) (sym e) in
@@ -57,7 +62,8 @@ taken_as given i group ids lt e same =
 
 -- what taking the group does, where groups in memory are the same whatever is told
 pub takes_group : (may : ℕ → ℕ → Bool) (told : Option (List ℕ)) (old new : List Group) (ids : List ℕ) → AreGroups may (first_key old) old
-    → old ≡ record { key = unwrap_or (first_key old) 0; ids = ids } ∷ new → TakesGroup (λ groups _. groups) first_key (λ _. may) (λ _ _. []) told old new ids
+    → old ≡ record { key = unwrap_or (first_key old) 0; ids = ids } ∷ new
+    → TakesGroup (λ groups _. groups) first_key (λ _. may) (λ _ _. []) told old new ids
 takes_group may told old new ids are first = record {
   first = λ bytes at. first;
   lawful = is_group _ _ _ _ _ are first;
@@ -65,3 +71,30 @@ takes_group may told old new ids are first = record {
   same_may = refl;
   same_pages = λ k lt. refl;
 }
+
+-- ---- what tests of groups tell
+
+all_from : (P : Group → Type 0) (groups : List Group) → ((k : ℕ) (d : Group) → k < length groups → P (get_or groups k d)) → AllByRecursion P groups
+all_from P [] each = tt
+all_from P (g ∷ gs) each = (each 0 g (omega arith), all_from P gs (λ k d lt. each (suc k) d (omega arith)))
+
+pub ordered_from : (groups : List Group) → ((k : ℕ) (d : Group) → k < length groups → IsOrdered (get_or groups k d)) → AllByRecursion IsOrdered groups
+ordered_from groups each = all_from IsOrdered groups each
+
+falls_all : (key : ℕ) (groups : List Group) → IsLess (first_key groups) (Some key) → Descends groups → AllByRecursion (λ later. later.key < key) groups
+falls_all key [] less down = tt
+falls_all key (g ∷ gs) less down = (less, lower gs down.0)
+  where
+    lower : (l : List Group) → AllByRecursion (λ later. later.key < g.key) l → AllByRecursion (λ later. later.key < key) l
+    lower [] all = tt
+    lower (h ∷ hs) all = (omega (arith, all.0, less), lower hs all.1)
+
+-- keys of which each is below the one before it descend
+pub descends_from : (groups : List Group) → ((k : ℕ) (d : Group) → k + 1 < length groups → (get_or groups (k + 1) d).key < (get_or groups k d).key) → Descends groups
+descends_from [] each = tt
+descends_from (g ∷ []) each = (tt, tt)
+descends_from (g ∷ h ∷ gs) each =
+    let rest : Descends (h ∷ gs) = descends_from (h ∷ gs) (λ k d lt.
+    let place : suc k + 1 ≡ suc (k + 1) = omega arith in
+    subst (λ (n : ℕ). (get_or (g ∷ h ∷ gs) n d).key < (get_or (h ∷ gs) k d).key) place (each (suc k) d (omega arith))) in
+    (falls_all g.key (h ∷ gs) (each 0 g (omega arith)) rest, rest)

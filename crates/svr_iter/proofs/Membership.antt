@@ -36,7 +36,8 @@ same_ids (x ∷ xs) (y ∷ ys) up others same =
     (λ e. let low : Above x ys = subst (λ (n : ℕ). Above n ys) (sym e) others.0 in
     let each : (id : ℕ) → is_in id (x ∷ xs) ≡ is_in id (x ∷ ys) = λ id. same id ∙ ap (λ (n : ℕ). is_in id (n ∷ ys)) (sym e) in
     ap (λ (l : List ℕ). x ∷ l) (ih (λ id. rest_same x id xs ys up.0 low (each id))) ∙ ap (λ (n : ℕ). n ∷ ys) e)
-    (λ lt. let e : true ≡ false = sym (first_in y ys) ∙ sym (same y) ∙ not_among y (x ∷ xs) (lt, above-less y x xs lt up.0) in absurd (cc))
+    (λ lt. let e : true ≡ false = sym (first_in y ys) ∙ sym (same y)
+    ∙ not_among y (x ∷ xs) (lt, above-less y x xs lt up.0) in absurd (cc))
 
 or_swap : (a b c : Bool) → (a || (b || c)) ≡ (b || (a || c))
 or_swap true true c = refl
@@ -60,12 +61,15 @@ pub in_with : (id n : ℕ) (xs : List ℕ) → is_in id (with_id n xs) ≡ ((n =
 in_with id n [] = refl
 in_with id n (x ∷ xs) = by_order n x _
     (λ lt. rw (lt_true n x lt) refl)
-    (λ e. subst (λ (m : ℕ). is_in id (with_id n (m ∷ xs)) ≡ ((n == id) || is_in id (m ∷ xs))) e (rw (lt_false n n (omega arith), eq_self n) (or_same (n == id) (is_in id xs))))
-    (λ lt. rw (lt_false n x (omega arith), eq_more x n lt) (ap (λ (b : Bool). (x == id) || b) (in_with id n xs) ∙ or_swap (x == id) (n == id) (is_in id xs)))
+    (λ e. subst (λ (m : ℕ). is_in id (with_id n (m ∷ xs)) ≡ ((n == id) || is_in id (m ∷ xs))) e
+    (rw (lt_false n n (omega arith), eq_self n) (or_same (n == id) (is_in id xs))))
+    (λ lt. rw (lt_false n x (omega arith), eq_more x n lt)
+    (ap (λ (b : Bool). (x == id) || b) (in_with id n xs) ∙ or_swap (x == id) (n == id) (is_in id xs)))
 
 pub in_either : (id : ℕ) (xs ys : List ℕ) → is_in id (either xs ys) ≡ (is_in id xs || is_in id ys)
 in_either id [] ys = refl
-in_either id (x ∷ xs) ys = in_with id x (either xs ys) ∙ ap (λ (b : Bool). (x == id) || b) (in_either id xs ys) ∙ sym (or_assoc (x == id) (is_in id xs) (is_in id ys))
+in_either id (x ∷ xs) ys = in_with id x (either xs ys) ∙ ap (λ (b : Bool). (x == id) || b) (in_either id xs ys)
+    ∙ sym (or_assoc (x == id) (is_in id xs) (is_in id ys))
 
 pub in_filter : (p : ℕ → Bool) (id : ℕ) (xs : List ℕ) → is_in id (filter p xs) ≡ (p id && is_in id xs)
 in_filter p id [] = none (p id)
@@ -75,7 +79,8 @@ in_filter p id [] = none (p id)
     none false = refl
 in_filter p id (x ∷ xs) = one (p x) (x == id) refl refl (in_filter p id xs)
   where
-    one : (a b : Bool) → p x ≡ a → (x == id) ≡ b → is_in id (filter p xs) ≡ (p id && is_in id xs) → is_in id (cond a (x ∷ filter p xs) (filter p xs)) ≡ (p id && (b || is_in id xs))
+    one : (a b : Bool) → p x ≡ a → (x == id) ≡ b → is_in id (filter p xs) ≡ (p id && is_in id xs)
+        → is_in id (cond a (x ∷ filter p xs) (filter p xs)) ≡ (p id && (b || is_in id xs))
     one a false e f rest = is_in-if id a (x ∷ filter p xs) (filter p xs) _ (rw f rest) rest
     one true true e f rest = let here : p id ≡ true = subst (λ (n : ℕ). p n ≡ true) (eq_from x id f) e in rw (f, here) refl
     one false true e f rest = let here : p id ≡ false = subst (λ (n : ℕ). p n ≡ false) (eq_from x id f) e in rw here (rw here at rest)
@@ -84,13 +89,16 @@ pub in_marks : (id : ℕ) (ms : List Marked) → is_in id (ids_of ms) ≡ has_ma
 in_marks id [] = refl
 in_marks id (m ∷ ms) = one (m.id == id) (in_marks id ms)
   where
-    one : (b : Bool) → is_in id (ids_of ms) ≡ has_mark (mark_of id ms) → (b || is_in id (ids_of ms)) ≡ has_mark (cond b (Some m.mark) (mark_of id ms))
+    one : (b : Bool) → is_in id (ids_of ms) ≡ has_mark (mark_of id ms)
+        → (b || is_in id (ids_of ms)) ≡ has_mark (cond b (Some m.mark) (mark_of id ms))
     one true e = refl
     one false e = e
 
 -- which ids stand at a key: of the posted and marked ones those that do
 pub in_live : (entry : ℕ → Option ListKey) (key : ℕ) (marks : List Marked) (posted : List ℕ) (id : ℕ)
-    → is_in id (live_ids entry key marks posted) ≡ (stands (entry id) key (mark_of id marks) && (has_mark (mark_of id marks) || is_in id posted))
+    → is_in id (live_ids entry key marks posted)
+    ≡ (stands (entry id) key (mark_of id marks) && (has_mark (mark_of id marks) || is_in id posted))
 in_live entry key marks posted id =
     in_filter (λ i. stands (entry i) key (mark_of i marks)) id (either (ids_of marks) posted)
-    ∙ ap (λ (b : Bool). stands (entry id) key (mark_of id marks) && b) (in_either id (ids_of marks) posted ∙ ap (λ (b : Bool). b || is_in id posted) (in_marks id marks))
+    ∙ ap (λ (b : Bool). stands (entry id) key (mark_of id marks) && b)
+    (in_either id (ids_of marks) posted ∙ ap (λ (b : Bool). b || is_in id posted) (in_marks id marks))

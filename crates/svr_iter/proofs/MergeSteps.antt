@@ -71,11 +71,14 @@ step_both so both xs ys i j up li lj same e =
     let left = subst Up (drop_at xs i li) (Up-drop i xs (Up-from xs up)) in
     rw (drop_at xs i li, drop_at ys j lj) (first_both _ _ _ _ left same))
 
-pub ends_left : (so both xs ys : List ℕ) (i j : ℕ) → length xs ≤ i → so ++ either (drop i xs) (drop j ys) ≡ both → (so ++ drop i xs) ++ drop j ys ≡ both
-ends_left so both xs ys i j le e = append_assoc so (drop i xs) (drop j ys) ∙ ap (λ (l : List ℕ). so ++ (l ++ drop j ys)) (drop_past xs i le)
+pub ends_left : (so both xs ys : List ℕ) (i j : ℕ) → length xs ≤ i → so ++ either (drop i xs) (drop j ys) ≡ both
+    → (so ++ drop i xs) ++ drop j ys ≡ both
+ends_left so both xs ys i j le e = append_assoc so (drop i xs) (drop j ys)
+    ∙ ap (λ (l : List ℕ). so ++ (l ++ drop j ys)) (drop_past xs i le)
     ∙ sym (ap (λ (l : List ℕ). so ++ either l (drop j ys)) (drop_past xs i le)) ∙ e
 
-pub ends_right : (so both xs ys : List ℕ) (i j : ℕ) → IsStrictlyIncreasing xs → length ys ≤ j → so ++ either (drop i xs) (drop j ys) ≡ both
+pub ends_right : (so both xs ys : List ℕ) (i j : ℕ) → IsStrictlyIncreasing xs → length ys ≤ j
+    → so ++ either (drop i xs) (drop j ys) ≡ both
     → (so ++ drop i xs) ++ drop j ys ≡ both
 ends_right so both xs ys i j up le e =
     ap (λ (l : List ℕ). (so ++ drop i xs) ++ l) (drop_past ys j le) ∙ append-nil (so ++ drop i xs)

@@ -19,7 +19,8 @@ up_tail x xs up = λ k lt.
 up_far : (x : ℕ) (xs : List ℕ) → IsStrictlyIncreasing (x ∷ xs) → (k : ℕ) → k < length xs → x < slice_index xs k
 up_far x [] up k lt = absurd (omega arith)
 up_far x (y ∷ ys) up zero lt = up 0 (omega arith)
-up_far x (y ∷ ys) up (suc k) lt = let one : x < y = up 0 (omega arith) in let far : y < slice_index ys k = up_far y ys (up_tail x (y ∷ ys) up) k (omega arith) in omega arith
+up_far x (y ∷ ys) up (suc k) lt = let one : x < y = up 0 (omega arith) in let far : y < slice_index ys k =
+    up_far y ys (up_tail x (y ∷ ys) up) k (omega arith) in omega arith
 
 none_equal : (id : ℕ) (xs : List ℕ) → ((k : ℕ) → k < length xs → id < slice_index xs k) → is_in id xs ≡ false
 none_equal id [] above = refl
@@ -28,7 +29,8 @@ none_equal id (x ∷ xs) above = rw (eq_more id x (above 0 (omega arith))) (none
 pub is_in-past : (id : ℕ) (xs : List ℕ) (at : ℕ) → length xs ≤ at → ((j : ℕ) → j < at → slice_index xs j < id) → is_in id xs ≡ false
 is_in-past id [] at le below = refl
 is_in-past id (x ∷ xs) zero le below = absurd (omega arith)
-is_in-past id (x ∷ xs) (suc at) le below = rw (eq_less x id (below 0 (omega arith))) (is_in-past id xs at (omega arith) (λ j lt. below (suc j) (omega arith)))
+is_in-past id (x ∷ xs) (suc at) le below = rw (eq_less x id (below 0 (omega arith)))
+    (is_in-past id xs at (omega arith) (λ j lt. below (suc j) (omega arith)))
 
 at_first : (id x : ℕ) (xs : List ℕ) (b : Bool) → (x == id) ≡ b → id ≤ x → IsStrictlyIncreasing (x ∷ xs) → (x == id) ≡ is_in id (x ∷ xs)
 at_first id x xs true e le up = rw e refl
@@ -36,7 +38,8 @@ at_first id x xs false e le up =
     let above : id < x = grind (arith, nat_tests) in
     rw e (sym (none_equal id xs (λ k lt. let far : x < slice_index xs k = up_far x xs up k lt in omega arith)))
 
-pub is_in-at : (id : ℕ) (xs : List ℕ) (at : ℕ) → IsStrictlyIncreasing xs → at < length xs → ((j : ℕ) → j < at → slice_index xs j < id) → id ≤ slice_index xs at
+pub is_in-at : (id : ℕ) (xs : List ℕ) (at : ℕ) → IsStrictlyIncreasing xs → at < length xs → ((j : ℕ) → j < at → slice_index xs j < id)
+    → id ≤ slice_index xs at
     → (slice_index xs at == id) ≡ is_in id xs
 is_in-at id [] at up lt below le = absurd (omega arith)
 is_in-at id (x ∷ xs) zero up lt below le = at_first id x xs _ refl le up
@@ -44,7 +47,8 @@ is_in-at id (x ∷ xs) (suc at) up lt below le =
     rw (eq_less x id (below 0 (omega arith))) (is_in-at id xs at (up_tail x xs up) (omega arith) (λ j h. below (suc j) (omega arith)) le)
 
 -- an id stands among the others where it stands at its place
-pub is_in-place : (id : ℕ) (xs : List ℕ) (place : ℕ) → IsStrictlyIncreasing xs → IsPlaceOf id xs place → place < length xs → (slice_index xs place == id) ≡ is_in id xs
+pub is_in-place : (id : ℕ) (xs : List ℕ) (place : ℕ) → IsStrictlyIncreasing xs → IsPlaceOf id xs place → place < length xs
+    → (slice_index xs place == id) ≡ is_in id xs
 is_in-place id xs place up is lt = is_in-at id xs place up lt is.below (is.at lt)
 
 pub not_in-place : (id : ℕ) (xs : List ℕ) (place : ℕ) → IsPlaceOf id xs place → length xs ≤ place → is_in id xs ≡ false
@@ -61,12 +65,15 @@ pub length-ids : (ms : List Marked) → length (ids_of ms) ≡ length ms
 length-ids [] = refl
 length-ids (m ∷ ms) = ap suc (length-ids ms)
 
-past_marks : (id : ℕ) (ms : List Marked) (place : ℕ) → length ms ≤ place → ((j : ℕ) → j < place → slice_index (ids_of ms) j < id) → mark_of id ms ≡ None
+past_marks : (id : ℕ) (ms : List Marked) (place : ℕ) → length ms ≤ place → ((j : ℕ) → j < place → slice_index (ids_of ms) j < id)
+    → mark_of id ms ≡ None
 past_marks id [] place le below = refl
 past_marks id (m ∷ ms) zero le below = absurd (omega arith)
-past_marks id (m ∷ ms) (suc place) le below = rw (eq_less m.id id (below 0 (omega arith))) (past_marks id ms place (omega arith) (λ j lt. below (suc j) (omega arith)))
+past_marks id (m ∷ ms) (suc place) le below = rw (eq_less m.id id (below 0 (omega arith)))
+    (past_marks id ms place (omega arith) (λ j lt. below (suc j) (omega arith)))
 
-at_marks : (id : ℕ) (ms : List Marked) (place : ℕ) (d : Marked) → Up (ids_of ms) → place < length ms → ((j : ℕ) → j < place → slice_index (ids_of ms) j < id)
+at_marks : (id : ℕ) (ms : List Marked) (place : ℕ) (d : Marked) → Up (ids_of ms) → place < length ms
+    → ((j : ℕ) → j < place → slice_index (ids_of ms) j < id)
     → id ≤ (get_or ms place d).id → mark_of id ms ≡ cond ((get_or ms place d).id == id) (Some (get_or ms place d).mark) None
 at_marks id [] place d up lt below at = absurd (omega arith)
 at_marks id (m ∷ ms) zero d up lt below at = by (m.id == id) refl
@@ -77,7 +84,8 @@ at_marks id (m ∷ ms) zero d up lt below at = by (m.id == id) refl
 at_marks id (m ∷ ms) (suc place) d up lt below at =
     rw (eq_less m.id id (below 0 (omega arith))) (at_marks id ms place d up.1 (omega arith) (λ j low. below (suc j) (omega arith)) at)
 
-pub mark_of-place : (id : ℕ) (ms : List Marked) (place : ℕ) (d : Marked) → Up (ids_of ms) → IsPlaceOf id (ids_of ms) place → place < length ms
+pub mark_of-place : (id : ℕ) (ms : List Marked) (place : ℕ) (d : Marked) → Up (ids_of ms) → IsPlaceOf id (ids_of ms) place
+    → place < length ms
     → mark_of id ms ≡ cond ((get_or ms place d).id == id) (Some (get_or ms place d).mark) None
 mark_of-place id ms place d up is lt =
     at_marks id ms place d up lt is.below (subst (λ (n : ℕ). id ≤ n) (index-ids ms place d lt) (is.at (rw (length-ids ms) lt)))

@@ -21,7 +21,8 @@ mark_here l term key None = None
 mark_here l term key (Some d) = if d.entry.key == key then mark_by l term d else None
 
 -- entries, marks and posted groups are those of the listing, where the pages hold what `read` gives
-pub record Tells (l : Listing) (term : List ℕ) (read : PageRef → List Pair) (entry : ℕ → Option ListKey) (all : List MarksAt) (groups : List Group) : Type 0 where
+pub record Tells (l : Listing) (term : List ℕ) (read : PageRef → List Pair) (entry : ℕ → Option ListKey) (all : List MarksAt)
+    (groups : List Group) : Type 0 where
   pub ascend : Ascends (documents_of l)
   pub entries : (id : ℕ) → entry id ≡ entry_of l.documents id
   pub marks : (key id : ℕ) → mark_of id (marks_at key all) ≡ mark_here l term key (find (λ d. d.document.id == id) l.documents)

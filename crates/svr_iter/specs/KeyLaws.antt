@@ -72,7 +72,8 @@ first-with_key : (key : ℕ) (ks : List ℕ) → first (with_key key ks) ≡ gre
 first-with_key key [] = refl
 first-with_key key (k ∷ ks) = by_order k key _
     (λ lt. rw (lt_true k key lt, max-left key k (omega arith)) refl)
-    (λ e. subst (λ (n : ℕ). first (with_key n (k ∷ ks)) ≡ Some (max n k)) e (rw (lt_false k k (omega arith), eq_self k, max-left k k (omega arith)) refl))
+    (λ e. subst (λ (n : ℕ). first (with_key n (k ∷ ks)) ≡ Some (max n k)) e
+    (rw (lt_false k k (omega arith), eq_self k, max-left k k (omega arith)) refl))
     (λ lt. rw (lt_false k key (omega arith), eq_less key k lt, max-right key k (omega arith)) refl)
 
 first-descending : (ks : List ℕ) → first (descending ks) ≡ greatest (map Some ks)
@@ -89,7 +90,8 @@ greater-assoc x (Some y) (Some z) = ap Some (max-assoc x y z)
 
 greatest-append : (xs ys : List ℕ) → greatest (map Some (xs ++ ys)) ≡ greater (greatest (map Some xs)) (greatest (map Some ys))
 greatest-append [] ys = refl
-greatest-append (x ∷ xs) ys = ap (greater (Some x)) (greatest-append xs ys) ∙ greater-assoc x (greatest (map Some xs)) (greatest (map Some ys))
+greatest-append (x ∷ xs) ys = ap (greater (Some x)) (greatest-append xs ys)
+    ∙ greater-assoc x (greatest (map Some xs)) (greatest (map Some ys))
 
 greatest-groups : (gs : List Group) → Descends gs → greatest (map Some (map (λ (g : Group). g.key) gs)) ≡ first_key gs
 greatest-groups [] d = refl
@@ -103,10 +105,12 @@ abbrev pub keys_of : List Group → List ℕ
 keys_of list = map (λ group. group.key) list
 
 -- the first of the keys of several lists
-pub first-keys : (lists : List (List Group)) → AllByRecursion (λ list. Descends list) lists → first (descending (flat_map (λ list. keys_of list) lists)) ≡ greatest (map first_key lists)
+pub first-keys : (lists : List (List Group)) → AllByRecursion (λ list. Descends list) lists
+    → first (descending (flat_map (λ list. keys_of list) lists)) ≡ greatest (map first_key lists)
 first-keys lists all = first-descending (flat_map (λ list. keys_of list) lists) ∙ firsts lists all
   where
-    firsts : (ls : List (List Group)) → AllByRecursion (λ list. Descends list) ls → greatest (map Some (flat_map (λ list. keys_of list) ls)) ≡ greatest (map first_key ls)
+    firsts : (ls : List (List Group)) → AllByRecursion (λ list. Descends list) ls
+        → greatest (map Some (flat_map (λ list. keys_of list) ls)) ≡ greatest (map first_key ls)
     firsts [] all = refl
     firsts (l ∷ ls) all = greatest-append (keys_of l) (flat_map (λ list. keys_of list) ls)
         ∙ ap (λ (o : Option ℕ). greater o (greatest (map Some (flat_map (λ list. keys_of list) ls)))) (greatest-groups l all.0)

@@ -23,9 +23,11 @@ is_next key None = false
 is_next key (Some next) = next == key
 
 -- a list took its group of the key, which has these ids, or had none and stayed
-pub record TakesAt {S : Type 0} (groups : S → List ℕ → List Group) (next : S → Option ℕ) (may : S → ℕ → ℕ → Bool) (pages : S → ℕ → List PageRef)
+pub record TakesAt {S : Type 0} (groups : S → List ℕ → List Group) (next : S → Option ℕ) (may : S → ℕ → ℕ → Bool)
+    (pages : S → ℕ → List PageRef)
     (told : Option (List ℕ)) (key : ℕ) (old new : S) (ids : List ℕ) : Type 0 where
-  pub taken : ForSome told (λ bytes. groups old bytes ≡ (if is_next key (next old) then record { key = key; ids = ids } ∷ groups new bytes else groups new bytes))
+  pub taken : ForSome told (λ bytes. groups old bytes
+      ≡ (if is_next key (next old) then record { key = key; ids = ids } ∷ groups new bytes else groups new bytes))
   pub none : is_next key (next old) ≡ false → ids ≡ []
   pub less : IsLess (next new) (Some key)
   pub allowed : IsGroup (may old) (record { key = key; ids = ids })
@@ -33,7 +35,8 @@ pub record TakesAt {S : Type 0} (groups : S → List ℕ → List Group) (next :
   pub same_pages : (k : ℕ) → k < key → pages new k ≡ pages old k
 
 -- the same, and of the ids before those are left that it has
-pub record KeepsAt {S : Type 0} (groups : S → List ℕ → List Group) (next : S → Option ℕ) (may : S → ℕ → ℕ → Bool) (pages : S → ℕ → List PageRef)
+pub record KeepsAt {S : Type 0} (groups : S → List ℕ → List Group) (next : S → Option ℕ) (may : S → ℕ → ℕ → Bool)
+    (pages : S → ℕ → List PageRef)
     (told : Option (List ℕ)) (key : ℕ) (old new : S) (before after : List ℕ) : Type 0 where
   pub ids : List ℕ
   pub takes : TakesAt groups next may pages told key old new ids

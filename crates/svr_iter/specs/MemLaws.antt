@@ -25,7 +25,8 @@ allowed_from : (front gs : List Group) → AllByRecursion IsOrdered gs → AllBy
 allowed_from front [] are = tt
 allowed_from front (g ∷ gs) are = (
   record { ordered = are.0; allowed = λ k d lt. holds_behind front (g ∷ gs) g.key _ (holds_first g gs k d lt) },
-  subst (λ (l : List Group). AllByRecursion (IsGroup (holds l)) gs) (append_assoc front (g ∷ []) gs) (allowed_from (front ++ g ∷ []) gs are.1),
+  subst (λ (l : List Group). AllByRecursion (IsGroup (holds l)) gs) (append_assoc front (g ∷ []) gs)
+  (allowed_from (front ++ g ∷ []) gs are.1),
 )
 
 descends-drop : (n : ℕ) (gs : List Group) → Descends gs → Descends (drop n gs)

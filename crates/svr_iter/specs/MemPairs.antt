@@ -20,7 +20,8 @@ IsPaged (p ∷ ps) = ((p.key < 2 ^ 48) × (p.id < 2 ^ 63)) × (AllByRecursion (�
 -- one more id in front
 abbrev pub with_pair : Pair → List Group → List Group
 with_pair p [] = record { key = p.key; ids = p.id ∷ [] } ∷ []
-with_pair p (g ∷ gs) = cond (g.key == p.key) (record { key = p.key; ids = p.id ∷ g.ids } ∷ gs) (record { key = p.key; ids = p.id ∷ [] } ∷ g ∷ gs)
+with_pair p (g ∷ gs) = cond (g.key == p.key) (record { key = p.key; ids = p.id ∷ g.ids } ∷ gs)
+    (record { key = p.key; ids = p.id ∷ [] } ∷ g ∷ gs)
 
 -- the groups of pairs
 abbrev pub grouped : List Pair → List Group
@@ -71,12 +72,15 @@ before_trans p q r e f = by_order r.key p.key _
 in_range : (p : Pair) → is_in_range p ≡ true → (p.key < 2 ^ 48) × (p.id < 2 ^ 63)
 in_range p e = (lt_from p.key (2 ^ 48) (and_left _ _ e), lt_from p.id (2 ^ 63) (and_right _ _ e))
 
-follow-with : (p q : Pair) (gs : List Group) → is_before p q ≡ true → AllByRecursion (Follows p) gs → AllByRecursion (Follows p) (with_pair q gs)
+follow-with : (p q : Pair) (gs : List Group) → is_before p q ≡ true → AllByRecursion (Follows p) gs
+    → AllByRecursion (Follows p) (with_pair q gs)
 follow-with p q [] e all = (record { key_low = before_low p q e; ids_high = λ f. (before_high p q e f, tt) }, tt)
 follow-with p q (g ∷ gs) e all = one (g.key == q.key) refl
   where
-    one : (b : Bool) → (g.key == q.key) ≡ b → AllByRecursion (Follows p) (cond b (record { key = q.key; ids = q.id ∷ g.ids } ∷ gs) (record { key = q.key; ids = q.id ∷ [] } ∷ g ∷ gs))
-    one true f = (record { key_low = before_low p q e; ids_high = λ h. (before_high p q e h, all.0.ids_high (eq_from g.key q.key f ∙ h)) }, all.1)
+    one : (b : Bool) → (g.key == q.key) ≡ b → AllByRecursion (Follows p)
+        (cond b (record { key = q.key; ids = q.id ∷ g.ids } ∷ gs) (record { key = q.key; ids = q.id ∷ [] } ∷ g ∷ gs))
+    one true f = (record { key_low = before_low p q e; ids_high =
+        λ h. (before_high p q e h, all.0.ids_high (eq_from g.key q.key f ∙ h)) }, all.1)
     one false f = (record { key_low = before_low p q e; ids_high = λ h. (before_high p q e h, tt) }, all)
 
 follow : (p : Pair) (ps : List Pair) → AllByRecursion (λ q. is_before p q ≡ true) ps → AllByRecursion (Follows p) (grouped ps)
@@ -88,17 +92,21 @@ pub record IsRun (g : Group) : Type 0 where
   pub up : Up g.ids
   pub ids_fit : AllByRecursion (λ id. id < 2 ^ 63) g.ids
 
-lower : (key bound : ℕ) (gs : List Group) → AllByRecursion (λ (group : Group). group.key < bound) gs → bound < key → AllByRecursion (λ (group : Group). group.key < key) gs
+lower : (key bound : ℕ) (gs : List Group) → AllByRecursion (λ (group : Group). group.key < bound) gs → bound < key
+    → AllByRecursion (λ (group : Group). group.key < key) gs
 lower key bound [] all lt = tt
 lower key bound (g ∷ gs) all lt = (omega (arith, all.0), lower key bound gs all.1 lt)
 
-runs-with : (p : Pair) (gs : List Group) → (p.key < 2 ^ 48) × (p.id < 2 ^ 63) → AllByRecursion (Follows p) gs → Descends gs × AllByRecursion IsRun gs
+runs-with : (p : Pair) (gs : List Group) → (p.key < 2 ^ 48) × (p.id < 2 ^ 63) → AllByRecursion (Follows p) gs
+    → Descends gs × AllByRecursion IsRun gs
     → Descends (with_pair p gs) × AllByRecursion IsRun (with_pair p gs)
 runs-with p [] fits all good = ((tt, tt), (record { key_fits = fits.0; up = (tt, tt); ids_fit = (fits.1, tt) }, tt))
 runs-with p (g ∷ gs) fits all good = one (g.key == p.key) refl
   where
-    one : (b : Bool) → (g.key == p.key) ≡ b → Descends (cond b (record { key = p.key; ids = p.id ∷ g.ids } ∷ gs) (record { key = p.key; ids = p.id ∷ [] } ∷ g ∷ gs))
-        × AllByRecursion IsRun (cond b (record { key = p.key; ids = p.id ∷ g.ids } ∷ gs) (record { key = p.key; ids = p.id ∷ [] } ∷ g ∷ gs))
+    one : (b : Bool) → (g.key == p.key) ≡ b
+        → Descends (cond b (record { key = p.key; ids = p.id ∷ g.ids } ∷ gs) (record { key = p.key; ids = p.id ∷ [] } ∷ g ∷ gs))
+        × AllByRecursion IsRun (cond b (record { key = p.key; ids = p.id ∷ g.ids } ∷ gs)
+            (record { key = p.key; ids = p.id ∷ [] } ∷ g ∷ gs))
     one true f =
         let same : g.key ≡ p.key = eq_from g.key p.key f in (
           (subst (λ (n : ℕ). AllByRecursion (λ (later : Group). later.key < n) gs) same good.0.0, good.0.1),
@@ -106,7 +114,8 @@ runs-with p (g ∷ gs) fits all good = one (g.key == p.key) refl
         )
     one false f =
         let low : g.key < p.key = grind (arith, nat_tests, all.0.key_low) in
-        (((low, lower p.key g.key gs good.0.0 low), good.0), (record { key_fits = fits.0; up = (tt, tt); ids_fit = (fits.1, tt) }, good.1))
+        (((low, lower p.key g.key gs good.0.0 low), good.0),
+        (record { key_fits = fits.0; up = (tt, tt); ids_fit = (fits.1, tt) }, good.1))
 
 runs : (ps : List Pair) → IsPaged ps → Descends (grouped ps) × AllByRecursion IsRun (grouped ps)
 runs [] are = (tt, tt)
@@ -122,7 +131,8 @@ as_groups (g ∷ gs) all = (
   as_groups gs all.1,
 )
 
-before_all : (p q : Pair) (ps : List Pair) → is_before p q ≡ true → AllByRecursion (λ r. is_before q r ≡ true) ps → AllByRecursion (λ r. is_before p r ≡ true) ps
+before_all : (p q : Pair) (ps : List Pair) → is_before p q ≡ true → AllByRecursion (λ r. is_before q r ≡ true) ps
+    → AllByRecursion (λ r. is_before p r ≡ true) ps
 before_all p q [] e all = tt
 before_all p q (r ∷ rs) e all = (before_trans p q r e all.0, before_all p q rs e all.1)
 

@@ -17,7 +17,8 @@ abbrev pub KeepsBelow : Option ℕ → (ℕ → List PageRef) → (ℕ → List 
 KeepsBelow key old new = (k : ℕ) → k < unwrap_or key 0 → new k ≡ old k
 
 -- the first group was taken away, and it has these ids: so it is where the reader tells bytes, and whatever it tells they ascend and may come there
-pub record TakesGroup {S : Type 0} (groups : S → List ℕ → List Group) (next : S → Option ℕ) (may : S → ℕ → ℕ → Bool) (pages : S → ℕ → List PageRef)
+pub record TakesGroup {S : Type 0} (groups : S → List ℕ → List Group) (next : S → Option ℕ) (may : S → ℕ → ℕ → Bool)
+    (pages : S → ℕ → List PageRef)
     (told : Option (List ℕ)) (old new : S) (ids : List ℕ) : Type 0 where
   pub first : ForSome told (λ bytes. groups old bytes ≡ record { key = unwrap_or (next old) 0; ids = ids } ∷ groups new bytes)
   pub lawful : IsGroup (may old) (record { key = unwrap_or (next old) 0; ids = ids })
@@ -26,7 +27,8 @@ pub record TakesGroup {S : Type 0} (groups : S → List ℕ → List Group) (nex
   pub same_pages : KeepsBelow (next old) (pages old) (pages new)
 
 -- a group was taken away, and of the ids before those are left that it has
-pub record KeepsGroup {S : Type 0} (groups : S → List ℕ → List Group) (next : S → Option ℕ) (may : S → ℕ → ℕ → Bool) (pages : S → ℕ → List PageRef)
+pub record KeepsGroup {S : Type 0} (groups : S → List ℕ → List Group) (next : S → Option ℕ) (may : S → ℕ → ℕ → Bool)
+    (pages : S → ℕ → List PageRef)
     (told : Option (List ℕ)) (old new : S) (before after : List ℕ) : Type 0 where
   pub ids : List ℕ
   pub takes : TakesGroup groups next may pages told old new ids

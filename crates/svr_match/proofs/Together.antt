@@ -39,14 +39,16 @@ keep_all (x ∷ xs) = ap (λ (l : List ℕ). x ∷ l) (keep_all xs)
 pub common-none : (ids start : List ℕ) → ids ≡ start → ids ≡ common_with start []
 common-none ids start e = e ∙ sym (keep_all start)
 
-pub common-more : (start ids new more : List ℕ) → new ≡ filter (λ id. is_in id more) ids → (all : List (List ℕ)) → ids ≡ common_with start all → new ≡ common_with start (all ++ more ∷ [])
+pub common-more : (start ids new more : List ℕ) → new ≡ filter (λ id. is_in id more) ids → (all : List (List ℕ))
+    → ids ≡ common_with start all → new ≡ common_with start (all ++ more ∷ [])
 common-more start ids new more kept all so =
     kept ∙ ap (filter (λ id. is_in id more)) so
     ∙ filter-filter (λ id. list_all (λ other. is_in id other) all) (λ id. is_in id more) start
     ∙ ap (λ (p : ℕ → Bool). filter p start) (fun_ext (λ id. sym (list_all-more (λ other. is_in id other) all more)))
 
 -- of ids that the first list keeps, those that each other keeps are those that all have
-pub common-kept : (before mid after ids : List ℕ) (all : List (List ℕ)) → mid ≡ filter (λ id. is_in id ids) before → after ≡ common_with mid all
+pub common-kept : (before mid after ids : List ℕ) (all : List (List ℕ)) → mid ≡ filter (λ id. is_in id ids) before
+    → after ≡ common_with mid all
     → after ≡ filter (λ id. is_in id (common_of (ids ∷ all))) before
 common-kept before mid after ids all first others =
     others ∙ ap (λ (l : List ℕ). common_with l all) first
@@ -69,13 +71,16 @@ or_turn true false = refl
 or_turn false true = refl
 or_turn false false = refl
 
-in_any-more : (id : ℕ) (all : List (List ℕ)) (more : List ℕ) → is_in id (any_of (all ++ more ∷ [])) ≡ (is_in id (any_of all) || is_in id more)
+in_any-more : (id : ℕ) (all : List (List ℕ)) (more : List ℕ)
+    → is_in id (any_of (all ++ more ∷ [])) ≡ (is_in id (any_of all) || is_in id more)
 in_any-more id [] more = in_either id more [] ∙ or_false (is_in id more)
 in_any-more id (ids ∷ all) more =
     in_either id ids (any_of (all ++ more ∷ [])) ∙ ap (λ (b : Bool). is_in id ids || b) (in_any-more id all more)
-    ∙ sym (or_assoc (is_in id ids) (is_in id (any_of all)) (is_in id more)) ∙ ap (λ (b : Bool). b || is_in id more) (sym (in_either id ids (any_of all)))
+    ∙ sym (or_assoc (is_in id ids) (is_in id (any_of all)) (is_in id more))
+    ∙ ap (λ (b : Bool). b || is_in id more) (sym (in_either id ids (any_of all)))
 
-pub any-more : (ids new more : List ℕ) → new ≡ either more ids → (all : List (List ℕ)) → ids ≡ any_of all → new ≡ any_of (all ++ more ∷ [])
+pub any-more : (ids new more : List ℕ) → new ≡ either more ids → (all : List (List ℕ)) → ids ≡ any_of all
+    → new ≡ any_of (all ++ more ∷ [])
 any-more ids new more added all so =
     added ∙ ap (either more) so
     ∙ same_ids _ _ (Up-either more (any_of all) (any-up all)) (any-up (all ++ more ∷ []))
@@ -97,11 +102,13 @@ both_or true false p = or_false p
 both_or false true p = refl
 both_or false false p = refl
 
-pub some-more : (ids kept new mine more : List ℕ) → Up ids → mine ≡ filter (λ id. is_in id more) ids → new ≡ either mine kept → (all : List (List ℕ))
+pub some-more : (ids kept new mine more : List ℕ) → Up ids → mine ≡ filter (λ id. is_in id more) ids → new ≡ either mine kept
+    → (all : List (List ℕ))
     → kept ≡ filter (λ id. is_in id (any_of all)) ids → new ≡ filter (λ id. is_in id (any_of (all ++ more ∷ []))) ids
 some-more ids kept new mine more up has added all so =
     added ∙ ap₂ either has so
-    ∙ same_ids _ _ (Up-either (filter (λ id. is_in id more) ids) (filter (λ id. is_in id (any_of all)) ids) (Up-filter _ ids up)) (Up-filter _ ids up)
+    ∙ same_ids _ _ (Up-either (filter (λ id. is_in id more) ids) (filter (λ id. is_in id (any_of all)) ids) (Up-filter _ ids up))
+    (Up-filter _ ids up)
     (λ id.
     in_either id (filter (λ n. is_in n more) ids) (filter (λ n. is_in n (any_of all)) ids)
     ∙ ap₂ (λ (a b : Bool). a || b) (in_filter (λ n. is_in n more) id ids) (in_filter (λ n. is_in n (any_of all)) id ids)

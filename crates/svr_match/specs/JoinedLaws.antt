@@ -37,7 +37,8 @@ joined-up mode.Any lists all = any-up lists
 joined-up mode.All [] all = tt
 joined-up mode.All (ids ∷ others) all = Up-filter _ ids all.0
 
-joined-all : (m : Mode) (P : ℕ → Type 0) (lists : List (List ℕ)) → AllByRecursion (AllByRecursion P) lists → AllByRecursion P (joined m lists)
+joined-all : (m : Mode) (P : ℕ → Type 0) (lists : List (List ℕ)) → AllByRecursion (AllByRecursion P) lists
+    → AllByRecursion P (joined m lists)
 joined-all mode.Any P lists all = any-all P lists all
 joined-all mode.All P [] all = tt
 joined-all mode.All P (ids ∷ others) all = filter-all P P _ ids (λ x p e. p) all.0
@@ -72,11 +73,13 @@ in_all key id (part ∷ parts) all e =
     (at_member (λ i. part.may key i ≡ true) id part.ids (from_all _ part.ids all.0.allowed) (and_left (is_in id part.ids) _ e))
     (in_all key id parts all.1 (and_right (is_in id part.ids) _ e))
 
-in_any : (key : ℕ) (Q : ℕ → Type 0) (parts : List Part) → AllByRecursion (ArePart key) parts → ((id : ℕ) → list_any (λ may. may key id) (mays parts) ≡ true → Q id)
+in_any : (key : ℕ) (Q : ℕ → Type 0) (parts : List Part) → AllByRecursion (ArePart key) parts
+    → ((id : ℕ) → list_any (λ may. may key id) (mays parts) ≡ true → Q id)
     → AllByRecursion (AllByRecursion Q) (ids_of parts)
 in_any key Q [] all q = tt
 in_any key Q (part ∷ parts) all q = (
-  subst (AllByRecursion Q) (keep part.ids) (filter-all (λ i. part.may key i ≡ true) Q (λ i. true) part.ids (λ id e t. q id (or_left _ _ e)) (from_all _ part.ids all.0.allowed)),
+  subst (AllByRecursion Q) (keep part.ids)
+  (filter-all (λ i. part.may key i ≡ true) Q (λ i. true) part.ids (λ id e t. q id (or_left _ _ e)) (from_all _ part.ids all.0.allowed)),
   in_any key Q parts all.1 (λ id e. q id (or_right (part.may key id) _ e)),
 )
   where
@@ -84,17 +87,21 @@ in_any key Q (part ∷ parts) all q = (
     keep [] = refl
     keep (x ∷ xs) = ap (λ (l : List ℕ). x ∷ l) (keep xs)
 
-allowed_in : (m : Mode) (key : ℕ) (parts : List Part) → AllByRecursion (ArePart key) parts → AllByRecursion (λ id. may_in m (mays parts) key id ≡ true) (joined m (ids_of parts))
-allowed_in mode.Any key parts all = any-all _ (ids_of parts) (in_any key (λ id. list_any (λ may. may key id) (mays parts) ≡ true) parts all (λ id e. e))
+allowed_in : (m : Mode) (key : ℕ) (parts : List Part) → AllByRecursion (ArePart key) parts
+    → AllByRecursion (λ id. may_in m (mays parts) key id ≡ true) (joined m (ids_of parts))
+allowed_in mode.Any key parts all = any-all _ (ids_of parts)
+    (in_any key (λ id. list_any (λ may. may key id) (mays parts) ≡ true) parts all (λ id e. e))
 allowed_in mode.All key [] all = tt
 allowed_in mode.All key (part ∷ parts) all =
-    filter-all (λ id. part.may key id ≡ true) _ _ part.ids (λ id here e. both_true _ _ here (in_all key id parts all.1 e)) (from_all _ part.ids all.0.allowed)
+    filter-all (λ id. part.may key id ≡ true) _ _ part.ids (λ id here e. both_true _ _ here (in_all key id parts all.1 e))
+        (from_all _ part.ids all.0.allowed)
 
 ups : (key : ℕ) (parts : List Part) → AllByRecursion (ArePart key) parts → AllByRecursion Up (ids_of parts)
 ups key [] all = tt
 ups key (part ∷ parts) all = (Up-from part.ids all.0.ordered.ascending, ups key parts all.1)
 
-fits : (key : ℕ) (parts : List Part) → AllByRecursion (ArePart key) parts → AllByRecursion (AllByRecursion (λ id. id < 2 ^ 63)) (ids_of parts)
+fits : (key : ℕ) (parts : List Part) → AllByRecursion (ArePart key) parts
+    → AllByRecursion (AllByRecursion (λ id. id < 2 ^ 63)) (ids_of parts)
 fits key [] all = tt
 fits key (part ∷ parts) all = (from_all _ part.ids all.0.ordered.ids_fit, fits key parts all.1)
 
@@ -118,42 +125,52 @@ pub map-map : {P Q T : Type 0} (f : Q → T) (h : P → Q) (ps : List P) → map
 map-map f h [] = refl
 map-map {P} {Q} {T} f h (p ∷ ps) = ap (λ (l : List T). f (h p) ∷ l) (map-map f h ps)
 
-each_part : {P : Type 0} (may : P → ℕ → ℕ → Bool) (next : P → Option ℕ) (groups : P → List Group) → ((p : P) → AreGroups (may p) (next p) (groups p)) → (key : ℕ) (ps : List P) → key < 2 ^ 48
+each_part : {P : Type 0} (may : P → ℕ → ℕ → Bool) (next : P → Option ℕ) (groups : P → List Group)
+    → ((p : P) → AreGroups (may p) (next p) (groups p)) → (key : ℕ) (ps : List P) → key < 2 ^ 48
     → AllByRecursion (ArePart key) (parts_at may groups key ps)
 each_part may next groups law key [] lt = tt
 each_part may next groups law key (p ∷ ps) lt = (part_at (may p) key (groups p) lt (law p).each, each_part may next groups law key ps lt)
 
-group_law : {P : Type 0} (m : Mode) (may : P → ℕ → ℕ → Bool) (next : P → Option ℕ) (groups : P → List Group) → ((p : P) → AreGroups (may p) (next p) (groups p)) → (key : ℕ) (ps : List P)
+group_law : {P : Type 0} (m : Mode) (may : P → ℕ → ℕ → Bool) (next : P → Option ℕ) (groups : P → List Group)
+    → ((p : P) → AreGroups (may p) (next p) (groups p)) → (key : ℕ) (ps : List P)
     → key < 2 ^ 48 → IsGroup (may_in m (map may ps)) (record { key = key; ids = joined m (map (ids_at key) (map groups ps)) })
 group_law {P} m may next groups law key ps lt =
-    subst (λ (l : List (ℕ → ℕ → Bool)). IsGroup (may_in m l) (record { key = key; ids = joined m (map (ids_at key) (map groups ps)) })) (map-map (λ (q : Part). q.may) _ ps)
+    subst (λ (l : List (ℕ → ℕ → Bool)). IsGroup (may_in m l) (record { key = key; ids = joined m (map (ids_at key) (map groups ps)) }))
+    (map-map (λ (q : Part). q.may) _ ps)
     (subst (λ (l : List (List ℕ)). IsGroup (may_in m (mays (parts_at may groups key ps))) (record { key = key; ids = joined m l }))
     (map-map (λ (q : Part). q.ids) _ ps ∙ sym (map-map (ids_at key) groups ps))
     (joined-group m key (parts_at may groups key ps) lt (each_part may next groups law key ps lt)))
 
-keys_fit : {P : Type 0} (may : P → ℕ → ℕ → Bool) (next : P → Option ℕ) (groups : P → List Group) → ((p : P) → AreGroups (may p) (next p) (groups p)) → (ps : List P)
+keys_fit : {P : Type 0} (may : P → ℕ → ℕ → Bool) (next : P → Option ℕ) (groups : P → List Group)
+    → ((p : P) → AreGroups (may p) (next p) (groups p)) → (ps : List P)
     → AllByRecursion (λ key. key < 2 ^ 48) (flat_map (λ list. keys_of list) (map groups ps))
 keys_fit may next groups law [] = tt
-keys_fit may next groups law (p ∷ ps) = all-append _ (keys_of (groups p)) _ (fit (groups p) (law p).each) (keys_fit may next groups law ps)
+keys_fit may next groups law (p ∷ ps) = all-append _ (keys_of (groups p)) _ (fit (groups p) (law p).each)
+    (keys_fit may next groups law ps)
   where
     fit : (gs : List Group) → AllByRecursion (IsGroup (may p)) gs → AllByRecursion (λ key. key < 2 ^ 48) (keys_of gs)
     fit [] all = tt
     fit (g ∷ gs) all = (all.0.ordered.key_fits, fit gs all.1)
 
-descend-all : {P : Type 0} (may : P → ℕ → ℕ → Bool) (next : P → Option ℕ) (groups : P → List Group) → ((p : P) → AreGroups (may p) (next p) (groups p)) → (ps : List P)
+descend-all : {P : Type 0} (may : P → ℕ → ℕ → Bool) (next : P → Option ℕ) (groups : P → List Group)
+    → ((p : P) → AreGroups (may p) (next p) (groups p)) → (ps : List P)
     → AllByRecursion (λ list. Descends list) (map groups ps)
 descend-all may next groups law [] = tt
 descend-all may next groups law (p ∷ ps) = ((law p).descend, descend-all may next groups law ps)
 
-firsts : {P : Type 0} (may : P → ℕ → ℕ → Bool) (next : P → Option ℕ) (groups : P → List Group) → ((p : P) → AreGroups (may p) (next p) (groups p)) → (ps : List P)
+firsts : {P : Type 0} (may : P → ℕ → ℕ → Bool) (next : P → Option ℕ) (groups : P → List Group)
+    → ((p : P) → AreGroups (may p) (next p) (groups p)) → (ps : List P)
     → map first_key (map groups ps) ≡ map next ps
 firsts may next groups law [] = refl
-firsts may next groups law (p ∷ ps) = ap (λ (o : Option ℕ). o ∷ map first_key (map groups ps)) (law p).begin ∙ ap (λ (l : List (Option ℕ)). next p ∷ l) (firsts may next groups law ps)
+firsts may next groups law (p ∷ ps) = ap (λ (o : Option ℕ). o ∷ map first_key (map groups ps)) (law p).begin
+    ∙ ap (λ (l : List (Option ℕ)). next p ∷ l) (firsts may next groups law ps)
 
-pub joined-lawful : {P : Type 0} (m : Mode) (may : P → ℕ → ℕ → Bool) (next : P → Option ℕ) (groups : P → List Group) → ((p : P) → AreGroups (may p) (next p) (groups p)) → (ps : List P)
+pub joined-lawful : {P : Type 0} (m : Mode) (may : P → ℕ → ℕ → Bool) (next : P → Option ℕ) (groups : P → List Group)
+    → ((p : P) → AreGroups (may p) (next p) (groups p)) → (ps : List P)
     → AreGroups (may_in m (map may ps)) (greatest (map next ps)) (groups_joined m (map groups ps))
 joined-lawful m may next groups law ps = record {
-  begin = first_group _ (keys_in (map groups ps)) ∙ first-keys (map groups ps) (descend-all may next groups law ps) ∙ ap greatest (firsts may next groups law ps);
+  begin = first_group _ (keys_in (map groups ps)) ∙ first-keys (map groups ps) (descend-all may next groups law ps)
+      ∙ ap greatest (firsts may next groups law ps);
   descend = down_groups _ (keys_in (map groups ps)) (descending-down (flat_map (λ list. keys_of list) (map groups ps)));
   each = law_groups _ _ (keys_in (map groups ps)) (λ key lt. group_law m may next groups law key ps lt)
       (descending-all _ (flat_map (λ list. keys_of list) (map groups ps)) (keys_fit may next groups law ps));
@@ -161,22 +178,27 @@ joined-lawful m may next groups law ps = record {
 
 -- ---- pages
 
-pub joined-gone : {P : Type 0} (next : P → Option ℕ) (pages : P → ℕ → List PageRef) → ((p : P) (key : ℕ) → IsLess (next p) (Some key) → pages p key ≡ []) → (ps : List P) (key : ℕ)
+pub joined-gone : {P : Type 0} (next : P → Option ℕ) (pages : P → ℕ → List PageRef)
+    → ((p : P) (key : ℕ) → IsLess (next p) (Some key) → pages p key ≡ []) → (ps : List P) (key : ℕ)
     → IsLess (greatest (map next ps)) (Some key) → flat_map (λ p. pages p key) ps ≡ []
 joined-gone next pages gone [] key less = refl
 joined-gone next pages gone (p ∷ ps) key less =
     let both = less_first (next p) (greatest (map next ps)) key less in
     ap (λ (l : List PageRef). l ++ flat_map (λ q. pages q key) ps) (gone p key both.0) ∙ joined-gone next pages gone ps key both.1
 
-fits_all : {P : Type 0} (may : P → ℕ → ℕ → Bool) (next : P → Option ℕ) (groups : P → List Group) → ((p : P) → AreGroups (may p) (next p) (groups p)) → (ps : List P)
+fits_all : {P : Type 0} (may : P → ℕ → ℕ → Bool) (next : P → Option ℕ) (groups : P → List Group)
+    → ((p : P) → AreGroups (may p) (next p) (groups p)) → (ps : List P)
     → IfSome (greatest (map next ps)) (λ key. key < 2 ^ 48)
 fits_all may next groups law [] = tt
 fits_all may next groups law (p ∷ ps) = greater_fits (next p) (greatest (map next ps))
-    (subst (λ (o : Option ℕ). IfSome o (λ key. key < 2 ^ 48)) (law p).begin (first_fits (may p) (groups p) (law p).each)) (fits_all may next groups law ps)
+    (subst (λ (o : Option ℕ). IfSome o (λ key. key < 2 ^ 48)) (law p).begin (first_fits (may p) (groups p) (law p).each))
+    (fits_all may next groups law ps)
 
-pub greatest-fits : {P : Type 0} (may : P → ℕ → ℕ → Bool) (next : P → Option ℕ) (groups : P → List Group) → ((p : P) → AreGroups (may p) (next p) (groups p)) → (ps : List P) (result : Option ℕ)
+pub greatest-fits : {P : Type 0} (may : P → ℕ → ℕ → Bool) (next : P → Option ℕ) (groups : P → List Group)
+    → ((p : P) → AreGroups (may p) (next p) (groups p)) → (ps : List P) (result : Option ℕ)
     → result ≡ greatest (map next ps) → IfSome result (λ key. key < 2 ^ 48)
-greatest-fits may next groups law ps result e = subst (λ (o : Option ℕ). IfSome o (λ key. key < 2 ^ 48)) (sym e) (fits_all may next groups law ps)
+greatest-fits may next groups law ps result e = subst (λ (o : Option ℕ). IfSome o (λ key. key < 2 ^ 48)) (sym e)
+    (fits_all may next groups law ps)
 
 -- ---- they are the groups of the definitions
 
@@ -187,7 +209,8 @@ and_turn false true = refl
 and_turn false false = refl
 
 -- an id is in what all lists have where it is in each
-pub in_common : (id : ℕ) (ids : List ℕ) (others : List (List ℕ)) → is_in id (common_of (ids ∷ others)) ≡ list_all (λ other. is_in id other) (ids ∷ others)
+pub in_common : (id : ℕ) (ids : List ℕ) (others : List (List ℕ))
+    → is_in id (common_of (ids ∷ others)) ≡ list_all (λ other. is_in id other) (ids ∷ others)
 in_common id ids others =
     in_filter (λ i. list_all (λ other. is_in i other) others) id ids ∙ and_turn (list_all (λ other. is_in id other) others) (is_in id ids)
 
@@ -207,17 +230,23 @@ any-is key [] = refl
 any-is key (list ∷ lists) = ap (either (ids_at key list)) (any-is key lists)
 
 pub all-is : (lists : List (List Group)) → groups_in_all lists ≡ groups_joined mode.All lists
-all-is lists = ap (λ (f : ℕ → List ℕ). map {B = Group} (λ key. record { key = key; ids = f key }) (keys_in lists)) (fun_ext (λ key. common-is key lists))
+all-is lists = ap (λ (f : ℕ → List ℕ). map {B = Group} (λ key. record { key = key; ids = f key }) (keys_in lists))
+    (fun_ext (λ key. common-is key lists))
 
 pub any_groups-is : (lists : List (List Group)) → groups_in_any lists ≡ groups_joined mode.Any lists
-any_groups-is lists = ap (λ (f : ℕ → List ℕ). map {B = Group} (λ key. record { key = key; ids = f key }) (keys_in lists)) (fun_ext (λ key. any-is key lists))
+any_groups-is lists = ap (λ (f : ℕ → List ℕ). map {B = Group} (λ key. record { key = key; ids = f key }) (keys_in lists))
+    (fun_ext (λ key. any-is key lists))
 
-pub all-lawful : {P : Type 0} (may : P → ℕ → ℕ → Bool) (next : P → Option ℕ) (groups : P → List Group) → ((p : P) → AreGroups (may p) (next p) (groups p)) → (ps : List P)
+pub all-lawful : {P : Type 0} (may : P → ℕ → ℕ → Bool) (next : P → Option ℕ) (groups : P → List Group)
+    → ((p : P) → AreGroups (may p) (next p) (groups p)) → (ps : List P)
     → AreGroups (may_in mode.All (map may ps)) (greatest (map next ps)) (groups_in_all (map groups ps))
 all-lawful may next groups law ps =
-    subst (λ (l : List Group). AreGroups (may_in mode.All (map may ps)) (greatest (map next ps)) l) (sym (all-is (map groups ps))) (joined-lawful mode.All may next groups law ps)
+    subst (λ (l : List Group). AreGroups (may_in mode.All (map may ps)) (greatest (map next ps)) l) (sym (all-is (map groups ps)))
+    (joined-lawful mode.All may next groups law ps)
 
-pub any-lawful : {P : Type 0} (may : P → ℕ → ℕ → Bool) (next : P → Option ℕ) (groups : P → List Group) → ((p : P) → AreGroups (may p) (next p) (groups p)) → (ps : List P)
+pub any-lawful : {P : Type 0} (may : P → ℕ → ℕ → Bool) (next : P → Option ℕ) (groups : P → List Group)
+    → ((p : P) → AreGroups (may p) (next p) (groups p)) → (ps : List P)
     → AreGroups (may_in mode.Any (map may ps)) (greatest (map next ps)) (groups_in_any (map groups ps))
 any-lawful may next groups law ps =
-    subst (λ (l : List Group). AreGroups (may_in mode.Any (map may ps)) (greatest (map next ps)) l) (sym (any_groups-is (map groups ps))) (joined-lawful mode.Any may next groups law ps)
+    subst (λ (l : List Group). AreGroups (may_in mode.Any (map may ps)) (greatest (map next ps)) l) (sym (any_groups-is (map groups ps)))
+    (joined-lawful mode.Any may next groups law ps)

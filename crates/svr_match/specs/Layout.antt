@@ -12,7 +12,8 @@ pub record Turn (P : Type 0) : Type 0 where
   pub ids : List ℕ
 
 -- each list had its turn, and this holds of the ids that they had
-pub record AreTaken {P : Type 0} (groups : P → List ℕ → List Group) (next : P → Option ℕ) (may : P → ℕ → ℕ → Bool) (pages : P → ℕ → List PageRef)
+pub record AreTaken {P : Type 0} (groups : P → List ℕ → List Group) (next : P → Option ℕ) (may : P → ℕ → ℕ → Bool)
+    (pages : P → ℕ → List PageRef)
     (told : Option (List ℕ)) (key : ℕ) (old new : List P) (Holds : List (List ℕ) → Type 0) : Type 0 where
   pub turns : List (Turn P)
   pub olds : map (λ turn. turn.old) turns ≡ old

@@ -63,7 +63,7 @@ pub(crate) fn keep_at<P: Postings, R: PageReader>(
     if list.next_key() == Some(key) {
         list.keep_group(alloc, reader, ids)
     } else {
-        ids.clear();
+        ids.truncate(0);
         Ok(())
     }
 }

@@ -16,7 +16,9 @@ loop-at-preserved c =
     let id_is : c.index-id.result.now ≡ slice_index all at =
     c.index-id.ensures ∙ get_or_default_zero c.loop-at.ids.items at c.index-id.result.now there ∙ AreKept-id inv.kept lt in
     record {
-      kept = AreKept-more inv.kept lt c.stands_at.result c.keep_id-kept.result c.keep_id-kept.new.ids.items (c.stands_at.ensures ∙ ap (λ (n : ℕ). is_in n others) id_is)
+      kept = AreKept-more inv.kept lt c.stands_at.result c.keep_id-kept.result c.keep_id-kept.new.ids.items
+          (c.stands_at.ensures ∙ ap (λ (n : ℕ). is_in n others) id_is)
           c.keep_id-kept.ensures.count c.keep_id-kept.ensures.ids;
-      passed = IsPassed-more c.requires.ids lt (subst (λ (n : ℕ). IsPlaceOf n others c.place_of-place.result) id_is c.place_of-place.ensures);
+      passed = IsPassed-more c.requires.ids lt
+          (subst (λ (n : ℕ). IsPlaceOf n others c.place_of-place.result) id_is c.place_of-place.ensures);
     }

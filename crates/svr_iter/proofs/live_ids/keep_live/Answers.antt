@@ -20,14 +20,17 @@ loop-at-preserved g c =
     let id = c.index-id.result.now in
     let lt : at < length all = omega (arith, c.loop-at-test.true, c.len-at-end.ensures) in
     let there : at < length c.loop-at.ids.items = omega (arith, inv.kept.same_length) in
-    let id_is : id ≡ slice_index all at = c.index-id.ensures ∙ get_or_default_zero c.loop-at.ids.items at id there ∙ AreKept-id inv.kept lt in
+    let id_is : id ≡ slice_index all at = c.index-id.ensures ∙ get_or_default_zero c.loop-at.ids.items at id there
+    ∙ AreKept-id inv.kept lt in
     let passed : c.is_live-passed.result ≡ is_in id (live_ids entry key marks posted) =
     c.is_live-passed.ensures
     ∙ ap₂ (λ (m : Option Mark) (b : Bool). stands (entry id) key m && (has_mark m || b)) c.mark_at.ensures c.stands_at-is_posted.ensures
     ∙ sym (in_live entry key marks posted id) in
     record {
       kept = AreKept-more inv.kept lt c.is_live-passed.result c.keep_id-kept.result c.keep_id-kept.new.ids.items
-          (passed ∙ ap (λ (n : ℕ). is_in n (live_ids entry key marks posted)) id_is) c.keep_id-kept.ensures.count c.keep_id-kept.ensures.ids;
+          (passed ∙ ap (λ (n : ℕ). is_in n (live_ids entry key marks posted)) id_is) c.keep_id-kept.ensures.count
+          c.keep_id-kept.ensures.ids;
       posted = IsPassed-more c.requires.ids lt (subst (λ (n : ℕ). IsPlaceOf n posted c.place_of-i.result) id_is c.place_of-i.ensures);
-      marked = IsPassed-more c.requires.ids lt (subst (λ (n : ℕ). IsPlaceOf n (ids_of marks) c.mark_place-j.result) id_is c.mark_place-j.ensures);
+      marked = IsPassed-more c.requires.ids lt
+          (subst (λ (n : ℕ). IsPlaceOf n (ids_of marks) c.mark_place-j.result) id_is c.mark_place-j.ensures);
     }

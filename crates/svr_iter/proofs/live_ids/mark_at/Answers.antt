@@ -23,5 +23,6 @@ returns-else-place-marks c = elim c.else-place-marks.branch [
     let e : (marked.id == c.args.id) ≡ false = eq_false marked.id c.args.id w.if-marks-place.false in
     sym (mark_of-place c.args.id c.args.marks.now c.args.place first c.requires.marks c.requires.place w.if-place-marks.true
     ∙ ap (λ (b : Bool). cond b (Some marked.mark) None) e)
-  | else-place-marks-via-else-place-marks w ↦ sym (no_mark-place c.args.id c.args.marks.now c.args.place c.requires.place w.if-place-marks.false)
+  | else-place-marks-via-else-place-marks w ↦ sym
+      (no_mark-place c.args.id c.args.marks.now c.args.place c.requires.place w.if-place-marks.false)
 ]

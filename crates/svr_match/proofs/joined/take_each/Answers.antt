@@ -34,11 +34,15 @@ returns-in_err-add_ids-clause-asks g c =
 pub loop-list-preserved : goal.loop-list-preserved
 loop-list-preserved g c =
     let lt : c.loop-list.list-index < length c.loop-list.list-items = omega (arith, c.loop-list-test.true, c.loop-list.auto.list-items) in
-    let takes = subst (λ (told : Option (List ℕ)). TakesAt g.P.Postings.groups g.P.Postings.next g.P.Postings.may g.P.Postings.pages told c.args.key
-    (get_or c.loop-list.list-items c.loop-list.list-index c.list-item.result) c.take_at.new.list c.take_at.new.ids.items) c.loop-list.invariant.told c.in_ok-take_at.ensures.takes in
+    let takes = subst (λ (told : Option (List ℕ)). TakesAt g.P.Postings.groups g.P.Postings.next g.P.Postings.may g.P.Postings.pages told
+    c.args.key
+    (get_or c.loop-list.list-items c.loop-list.list-index c.list-item.result) c.take_at.new.list c.take_at.new.ids.items)
+    c.loop-list.invariant.told c.in_ok-take_at.ensures.takes in
     record {
-      run = Run-more c.loop-list.invariant.run c.list-item.result c.take_at.new.list c.take_at.new.ids.items (λ all. c.add_ids.new.ids.items ≡ any_of all) _ lt takes
-          c.in_ok-take_at.ensures.asks (any-more c.loop-list.ids.items c.add_ids.new.ids.items c.take_at.new.ids.items c.in_ok-add_ids.ensures);
+      run = Run-more c.loop-list.invariant.run c.list-item.result c.take_at.new.list c.take_at.new.ids.items
+          (λ all. c.add_ids.new.ids.items ≡ any_of all) _ lt takes
+          c.in_ok-take_at.ensures.asks
+              (any-more c.loop-list.ids.items c.add_ids.new.ids.items c.take_at.new.ids.items c.in_ok-add_ids.ensures);
       told = c.in_ok-take_at.ensures.reader.same_told ∙ c.loop-list.invariant.told;
       ready = c.in_ok-take_at.ensures.reader.is_ready;
       later = omega (arith, c.in_ok-take_at.ensures.reader.later, c.loop-list.invariant.later);
@@ -46,5 +50,6 @@ loop-list-preserved g c =
 
 pub returns-clause-asks : goal.returns-clause-asks
 returns-clause-asks g c =
-    let le : length c.loop-list.list-items ≤ c.loop-list.list-index = omega (arith, c.loop-list-test.false, c.loop-list.auto.list-items) in
+    let le : length c.loop-list.list-items ≤ c.loop-list.list-index =
+    omega (arith, c.loop-list-test.false, c.loop-list.auto.list-items) in
     Run-asks _ c.loop-list.invariant.run le

@@ -9,8 +9,10 @@ pub returns-clause-keeps : goal.returns-clause-keeps
 returns-clause-keeps g c =
     let m = c.args.self.now in
     let given = m.given.items in
-    let t = takes_group (holds given) (g.R.PageReader.told c.args._reader.now) (drop m.at given) (drop (m.at + 1) given) c.index.result.now.ids
-    (AreGroups-drop m.at given m.ordered) (taken_as given m.at c.index.result.now _ (some_left given m.at c.requires.some) c.index.ensures refl) in
+    let t = takes_group (holds given) (g.R.PageReader.told c.args._reader.now) (drop m.at given)
+    (drop (m.at + 1) given) c.index.result.now.ids
+    (AreGroups-drop m.at given m.ordered)
+    (taken_as given m.at c.index.result.now _ (some_left given m.at c.requires.some) c.index.ensures refl) in
     record {
       ids = c.index.result.now.ids;
       takes = record { first = t.first; lawful = t.lawful; next_less = t.next_less; same_may = refl; same_pages = t.same_pages };
