@@ -30,10 +30,10 @@ fn random_groups(
         for _ in 0..rng.next_word() % 6 {
             ids.push(id)?;
             if rng.next_word() % 5 > 0 {
-                let score = u64::from(rng.next_word()) % (key + 1);
+                let score = u64::from(rng.next_word()) % key.saturating_add(1);
                 table.push(Hit { id, score })?;
             }
-            id += 1 + u64::from(rng.next_word() % 4);
+            id = id.saturating_add(1 + u64::from(rng.next_word() % 4));
         }
         let ids = Items::from_vec(ids);
         groups.push(Group { key, ids })?;
