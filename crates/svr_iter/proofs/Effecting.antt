@@ -10,15 +10,15 @@ use Rattle.svr_listing.specs.Groups.{IsGroup}
 use Rattle.svr_listing.specs.declared.group.Group.{Group}
 use Rattle.svr_listing.specs.Joined.{ids_at, is_in, keys_in, term_groups}
 use Rattle.svr_listing.specs.Kept.{Ascends}
-use Rattle.svr_listing.specs.Listing.{Document, Listed, Listing, descending, documents_of, has_pair, has_term, held, is_held, is_removed, keys_by, listed_at, matching_at, pages_of, pairs_by, posted, stands_by}
+use Rattle.svr_listing.specs.Listing.{Listed, Listing, descending, has_pair, has_term, held, is_held, is_removed, keys_by, listed_at, matching_at, pages_of, pairs_by, posted, stands_by}
 use Rattle.svr_listing.proofs.Answering.{any-descending}
 use Rattle.svr_listing.proofs.Truths.{any-filter, any-map}
 use Rattle.svr_iter.specs.Effective.{Tells, mark_by, mark_here}
 use Rattle.svr_iter.specs.GroupLaws.{Up-filter}
 use Rattle.svr_iter.specs.KeyLaws.{AllLess, AreDescending, descending-down, keys_of}
 use Rattle.svr_iter.specs.Marks.{AreMarks, IsMarksAt, MarksAt, added_below, by_mark, has_add, has_mark, ids_of, is_add, live_groups, live_ids, mark_of, marks_at, stands}
-use Rattle.svr_iter.specs.Merging.{Above, Up, Up-either, Up-from, above-less}
-use Rattle.svr_iter.specs.Truths.{and_left, and_right, both_true, by_order, eq_from, eq_less, eq_more, eq_self, if_at, or_left, or_right}
+use Rattle.svr_iter.specs.Merging.{Above, Up, Up-either, Up-from}
+use Rattle.svr_iter.specs.Truths.{by_order, eq_from, eq_less, eq_self, if_at, or_left, or_right}
 use Rattle.svr_iter.specs.declared.marks.Mark.{Mark}
 use Rattle.svr_iter.specs.declared.marks.Mark.TheVariants as mark
 use Rattle.svr_iter.specs.declared.marks.Marked.{Marked}
@@ -44,7 +44,7 @@ above-matching : (id key : ℕ) (matches : Listed → Bool) (ds : List Listed) �
 above-matching id key matches [] a = tt
 above-matching id key matches (d ∷ ds) a =
     if_at ((d.entry.key == key) && matches d) (λ (l : List Listed). Above id (map (λ (e : Listed). e.document.id) l)) (d ∷ filter _ ds)
-        (filter _ ds)
+    (filter _ ds)
     (a.0, above-matching id key matches ds a.1) (above-matching id key matches ds a.1)
 
 up-matching : (key : ℕ) (matches : Listed → Bool) (ds : List Listed) → Up (map (λ (d : Listed). d.document.id) ds)
@@ -52,7 +52,7 @@ up-matching : (key : ℕ) (matches : Listed → Bool) (ds : List Listed) → Up 
 up-matching key matches [] up = tt
 up-matching key matches (d ∷ ds) up =
     if_at ((d.entry.key == key) && matches d) (λ (l : List Listed). Up (map (λ (e : Listed). e.document.id) l)) (d ∷ filter _ ds)
-        (filter _ ds)
+    (filter _ ds)
     (above-matching d.document.id key matches ds up.0, up-matching key matches ds up.1) (up-matching key matches ds up.1)
 
 in_first : (id n : ℕ) (a b : Bool) (xs : List ℕ) (rest : Bool) → (n == id) ≡ b → Above n xs → is_in id xs ≡ rest
@@ -88,7 +88,8 @@ no_and false = refl
 
 -- ---- one document
 
--- by its mark and its posted pair a document stands exactly where it does in the listing: `h` held, `m` moved, `r` read, `p` posted, `t` the term
+-- by its mark and its posted pair a document stands exactly where it does in the listing:
+-- `h` held, `m` moved, `r` read, `p` posted, `t` the term
 by_cases : (h m r p t : Bool) → h ≡ (t && (m || not p))
     → (by_mark m (cond h (Some mark.Add) (cond (not m && (p && not t)) (Some mark.Rem) None)) &&
     (has_mark (cond h (Some mark.Add) (cond (not m && (p && not t)) (Some mark.Rem) None)) || r))
@@ -110,7 +111,7 @@ here : (l : Listing) (term : List ℕ) (read : PageRef → List Pair) (d : Liste
 here l term read d key there false e p = refl
 here l term read d key there true e p =
     rw (p refl) (by_cases (is_held l term d) d.entry.moved (has_pair (listed_at d) (pairs_by read (pages_of l.lists term)))
-        (has_pair (listed_at d) (posted l term)) (has_term d.document term) refl)
+    (has_pair (listed_at d) (posted l term)) (has_term d.document term) refl)
 
 find-id : (id : ℕ) (ds : List Listed) (d : Listed) → find (λ e. e.document.id == id) ds ≡ Some d → d.document.id ≡ id
 find-id id [] d e = absurd (cc)
@@ -142,7 +143,7 @@ live_ids-listing : (l : Listing) (term : List ℕ) (read : PageRef → List Pair
 live_ids-listing l term read entry all groups tells key up =
     let documents = up_documents l.documents tells.ascend in
     same_ids _ _ (Up-filter (λ id. stands (entry id) key (mark_of id (marks_at key all))) _
-        (Up-either (ids_of (marks_at key all)) (ids_at key groups) up))
+    (Up-either (ids_of (marks_at key all)) (ids_at key groups) up))
     (up-matching key (stands_by read l term) l.documents documents)
     (λ id.
     in_live entry key (marks_at key all) (ids_at key groups) id
@@ -186,7 +187,7 @@ same_keys (x ∷ xs) (y ∷ ys) a b same =
 same_descending : (xs ys : List ℕ) → ((n : ℕ) → is_in n xs ≡ is_in n ys) → descending xs ≡ descending ys
 same_descending xs ys same =
     same_keys _ _ (descending-down xs) (descending-down ys)
-        (λ n. any-descending (λ k. k == n) xs ∙ same n ∙ sym (any-descending (λ k. k == n) ys))
+    (λ n. any-descending (λ k. k == n) xs ∙ same n ∙ sym (any-descending (λ k. k == n) ys))
 
 -- ---- the keys of Adds are those of held pairs
 

@@ -1,5 +1,5 @@
 -- The steps of taking the ids that stand at a key.
-use Rattle.std.proofs.Common.{◌≡◌, ℕ, zero, suc, ◌+◌, ◌<◌, ◌≤◌, ◌==◌, Bool, true, false, cond, List, [], ◌∷◌, ◌++◌, length, get_or, slice_index, drop, filter, Option, Some, None, refl, ap, sym, subst, ◌∙◌, arith, add-one}
+use Rattle.std.proofs.Common.{◌≡◌, ℕ, zero, suc, ◌+◌, ◌<◌, ◌≤◌, Bool, true, false, cond, List, [], ◌∷◌, ◌++◌, length, get_or, slice_index, drop, filter, Option, Some, None, refl, ap, sym, subst, ◌∙◌, arith, add-one}
 use Rattle.std.specs.List.Sorted.{IsStrictlyIncreasing}
 use Rattle.std.proofs.lemmas.List.{append-nil, append_assoc}
 use Rattle.svr_num.specs.declared.list_key.ListKey.{ListKey}
@@ -55,7 +55,7 @@ marked_first : (entry : ℕ → Option ListKey) (key : ℕ) (m : Marked) (ms : L
 marked_first entry key m ms xs up a =
     let above = all-either (λ id. m.id < id) (ids_of ms) xs up a in
     ap (filter (λ id. stands (entry id) key (mark_of id (m ∷ ms)))) (with_id-first m.id (either (ids_of ms) xs) above)
-        ∙ marked_tail entry key m ms xs above
+    ∙ marked_tail entry key m ms xs above
 
 both_first : (entry : ℕ → Option ListKey) (key x : ℕ) (m : Marked) (ms : List Marked) (xs : List ℕ) → m.id ≡ x → Above m.id (ids_of ms)
     → Up (ids_of ms) → Above x xs
@@ -63,7 +63,7 @@ both_first : (entry : ℕ → Option ListKey) (key x : ℕ) (m : Marked) (ms : L
 both_first entry key x m ms xs e up rest a =
     let above = all-either (λ id. m.id < id) (ids_of ms) xs up (subst (λ (n : ℕ). Above n xs) (sym e) a) in
     ap (filter (λ id. stands (entry id) key (mark_of id (m ∷ ms)))) (first_both m.id x (ids_of ms) xs (up, rest) e)
-        ∙ marked_tail entry key m ms xs above
+    ∙ marked_tail entry key m ms xs above
 
 pub drop_mark : (ms : List Marked) (j : ℕ) (d : Marked) → j < length ms → drop j ms ≡ get_or ms j d ∷ drop (j + 1) ms
 drop_mark [] j d lt = absurd (omega arith)

@@ -1,5 +1,5 @@
 -- Taking the greatest key of a term from its posted pairs and its marks.
-use Rattle.std.proofs.Common.{◌≡◌, ℕ, ◌<◌, ◌≤◌, ◌^◌, ◌==◌, ◌&&◌, Bool, true, false, cond, List, [], ◌∷◌, map, nat_lt, Option, Some, None, unwrap_or, refl, ap, sym, subst, ◌∙◌, arith}
+use Rattle.std.proofs.Common.{◌≡◌, ℕ, ◌<◌, ◌^◌, ◌&&◌, Bool, true, false, cond, List, [], ◌∷◌, map, nat_lt, Option, Some, None, unwrap_or, refl, ap, sym, subst, ◌∙◌, arith}
 use Rattle.std.specs.List.{AllByRecursion}
 use Rattle.std.specs.Option.{IfSome}
 use Rattle.svr_num.specs.declared.list_key.ListKey.{ListKey}
@@ -45,7 +45,7 @@ added-taken : (below : Option ℕ) (key : ℕ) (ms : List MarksAt) → AreMarks 
 added-taken below key [] are e = absurd (cc)
 added-taken below key (m ∷ ms) are e =
     one (is_below m.key below && has_add m.marks) refl e
-        (added-taken below key ms (record { descend = are.descend.1; each = are.each.1 }))
+    (added-taken below key ms (record { descend = are.descend.1; each = are.each.1 }))
   where
     past : (nat_lt m.key key) ≡ false → added_below (Some key) (m ∷ ms) ≡ added_below (Some key) ms
     past f = rw f refl
@@ -107,8 +107,13 @@ short_is : (below : Option ℕ) (ms : List MarksAt) (key : ℕ) → AreMarks ms 
 short_is below ms key are up = one (is_next key (next_add below ms)) refl
   where
     one : (b : Bool) → is_next key (next_add below ms) ≡ b
-        → IsStep key (record { old = added_below below ms; new = added_below (cond b (Some key) below) ms; ids =
-        cond b (ids_of (marks_at key ms)) []; took = b })
+        → IsStep key (record {
+          old = added_below below ms;
+          new = added_below (cond b (Some key) below) ms;
+          ids =
+              cond b (ids_of (marks_at key ms)) [];
+          took = b;
+        })
     one true e = record { is = added-taken below key ms are (is_next-some key _ e); none = λ f. absurd (cc); below = added-below key ms }
     one false e = record {
       is = refl;
@@ -118,8 +123,13 @@ short_is below ms key are up = one (is_next key (next_add below ms)) refl
     }
 
 some_of : (a b : Option ℕ) (key : ℕ) → greatest (a ∷ b ∷ []) ≡ Some key
-    → some_took (record { old = []; new = []; ids = []; took = is_next key a } ∷ record { old = []; new = []; ids = []; took =
-    is_next key b } ∷ []) ≡ true
+    → some_took (record { old = []; new = []; ids = []; took = is_next key a } ∷ record {
+      old = [];
+      new = [];
+      ids = [];
+      took =
+          is_next key b;
+    } ∷ []) ≡ true
 some_of a b key e = one_is a (greatest (b ∷ [])) key _ e (λ f. one_is b None key false f (λ g. absurd (cc)))
 
 -- where posted pairs and marks of a term are taken from
@@ -157,15 +167,19 @@ live_first groups next pages entry ms told key old new posted ids bytes both are
     let first : Step = long_step (groups old.long bytes) (groups new.long bytes) posted (is_next key (next old.long)) in
     let second : Step = short_step old.below ms key in
     let first_is : IsStep key first =
-    record { is = takes.taken bytes at; none = takes.none; below =
-        below_key every (next new.long) key (groups new.long bytes) (law new.long bytes) takes.less } in
+    record {
+      is = takes.taken bytes at;
+      none = takes.none;
+      below =
+          below_key every (next new.long) key (groups new.long bytes) (law new.long bytes) takes.less;
+    } in
     let steps : AllByRecursion (IsStep key) (first ∷ second ∷ []) =
     (first_is, (short_is old.below ms key are (next_up_to next ms key old both.is_key), tt)) in
     let some : some_took (first ∷ second ∷ []) ≡ true = some_of (next old.long) (next_add old.below ms) key (sym both.is_key) in
     let f : ℕ → List ℕ = λ k. live_ids entry k (marks_at k ms) (ids_at k (groups old.long bytes)) in
     let h : ℕ → List ℕ = λ k. live_ids entry k (marks_at k ms) (ids_at k (groups new.long bytes)) in
     ap (λ (ks : List ℕ). map {B = Group} (λ k. record { key = k; ids = f k }) ks)
-        (rw some at (keys_in-step key (first ∷ second ∷ []) steps))
+    (rw some at (keys_in-step key (first ∷ second ∷ []) steps))
     ∙ ap (λ (l : List ℕ). record { key = key; ids = l } ∷ map {B = Group} (λ k. record { key = k; ids = f k })
     (keys_in (news (first ∷ second ∷ []))))
     (ap (live_ids entry key (marks_at key ms)) (ids_at-here key _ _ posted _ first_is.is first_is.none first_is.below) ∙ sym same)

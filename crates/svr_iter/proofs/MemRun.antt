@@ -1,10 +1,9 @@
 -- Taking the ids of one key from pairs in memory.
-use Rattle.std.proofs.Common.{◌≡◌, ℕ, zero, suc, ◌+◌, ◌<◌, ◌≤◌, ◌^◌, ◌==◌, Bool, true, false, cond, List, [], ◌∷◌, ◌++◌, drop, length, get_or, Option, Some, unwrap_or, refl, ap, sym, subst, ◌∙◌, arith, add-one}
+use Rattle.std.proofs.Common.{◌≡◌, ℕ, zero, suc, ◌+◌, ◌<◌, ◌≤◌, ◌^◌, ◌==◌, Bool, true, false, cond, List, [], ◌∷◌, ◌++◌, drop, length, get_or, Option, Some, refl, ap, sym, subst, ◌∙◌, arith, add-one}
 use Rattle.std.specs.List.{list_all}
 use Rattle.std.specs.Option.{IsSome}
 use Rattle.std.proofs.lemmas.List.{append_assoc}
 use Rattle.svr_postpage.specs.Pairs.{are_in_order, is_in_range}
-use Rattle.svr_postpage.specs.declared.page_ref.PageRef.{PageRef}
 use Rattle.svr_postpage.specs.declared.pair.Pair.{Pair}
 use Rattle.svr_listing.specs.Groups.{first_key}
 use Rattle.svr_listing.specs.declared.group.Group.{Group}
@@ -87,7 +86,7 @@ pairs-fit (p ∷ ps) (suc i) d fit lt = pairs-fit ps i d (and_right _ _ fit) (om
 pub first-key : (ps : List Pair) (i : ℕ) (d : Pair) → i < length ps → first_key (grouped (drop i ps)) ≡ Some (get_or ps i d).key
 first-key ps i d lt =
     ap (λ (l : List Pair). first_key (grouped l)) (drop_pair ps i d lt)
-        ∙ ap first_key (first_with (get_or ps i d) (grouped (drop (i + 1) ps))).2
+    ∙ ap first_key (first_with (get_or ps i d) (grouped (drop (i + 1) ps))).2
 
 pub pairs-left : (ps : List Pair) (i : ℕ) → IsSome (first_key (grouped (drop i ps))) → i < length ps
 pairs-left [] zero some = absurd (cc)

@@ -74,14 +74,17 @@ takes_group may told old new ids are first = record {
 
 -- ---- what tests of groups tell
 
-all_from : (P : Group → Type 0) (groups : List Group) → ((k : ℕ) (d : Group) → k < length groups → P (get_or groups k d)) → AllByRecursion P groups
+all_from : (P : Group → Type 0) (groups : List Group) → ((k : ℕ) (d : Group) → k < length groups → P (get_or groups k d))
+    → AllByRecursion P groups
 all_from P [] each = tt
 all_from P (g ∷ gs) each = (each 0 g (omega arith), all_from P gs (λ k d lt. each (suc k) d (omega arith)))
 
-pub ordered_from : (groups : List Group) → ((k : ℕ) (d : Group) → k < length groups → IsOrdered (get_or groups k d)) → AllByRecursion IsOrdered groups
+pub ordered_from : (groups : List Group) → ((k : ℕ) (d : Group) → k < length groups → IsOrdered (get_or groups k d))
+    → AllByRecursion IsOrdered groups
 ordered_from groups each = all_from IsOrdered groups each
 
-falls_all : (key : ℕ) (groups : List Group) → IsLess (first_key groups) (Some key) → Descends groups → AllByRecursion (λ later. later.key < key) groups
+falls_all : (key : ℕ) (groups : List Group) → IsLess (first_key groups) (Some key) → Descends groups
+    → AllByRecursion (λ later. later.key < key) groups
 falls_all key [] less down = tt
 falls_all key (g ∷ gs) less down = (less, lower gs down.0)
   where
@@ -90,7 +93,8 @@ falls_all key (g ∷ gs) less down = (less, lower gs down.0)
     lower (h ∷ hs) all = (omega (arith, all.0, less), lower hs all.1)
 
 -- keys of which each is below the one before it descend
-pub descends_from : (groups : List Group) → ((k : ℕ) (d : Group) → k + 1 < length groups → (get_or groups (k + 1) d).key < (get_or groups k d).key) → Descends groups
+pub descends_from : (groups : List Group)
+    → ((k : ℕ) (d : Group) → k + 1 < length groups → (get_or groups (k + 1) d).key < (get_or groups k d).key) → Descends groups
 descends_from [] each = tt
 descends_from (g ∷ []) each = (tt, tt)
 descends_from (g ∷ h ∷ gs) each =

@@ -1,11 +1,10 @@
 -- Which ids are among others, and that ids in their order are told by which they are.
-use Rattle.std.proofs.Common.{◌≡◌, ℕ, ◌<◌, ◌==◌, ◌&&◌, ◌||◌, Bool, true, false, cond, List, [], ◌∷◌, ◌++◌, filter, nat_lt, Option, Some, None, refl, ap, sym, subst, ◌∙◌, arith}
+use Rattle.std.proofs.Common.{◌≡◌, ℕ, ◌==◌, ◌&&◌, ◌||◌, Bool, true, false, cond, List, [], ◌∷◌, filter, Option, Some, refl, ap, sym, subst, ◌∙◌, arith}
 use Rattle.svr_num.specs.declared.list_key.ListKey.{ListKey}
 use Rattle.svr_listing.specs.Joined.{either, is_in, with_id}
 use Rattle.svr_iter.specs.Marks.{has_mark, ids_of, live_ids, mark_of, stands}
 use Rattle.svr_iter.specs.Merging.{Above, Up, above-less}
-use Rattle.svr_iter.specs.Truths.{by_order, eq_from, eq_less, eq_more, eq_self, lt_false, lt_true}
-use Rattle.svr_iter.specs.declared.marks.Mark.{Mark}
+use Rattle.svr_iter.specs.Truths.{by_order, eq_from, eq_more, eq_self, lt_false, lt_true}
 use Rattle.svr_iter.specs.declared.marks.Marked.{Marked}
 
 pub not_among : (id : ℕ) (xs : List ℕ) → Above id xs → is_in id xs ≡ false

@@ -1,12 +1,11 @@
 -- Where an id stands among ids in their order.
-use Rattle.std.proofs.Common.{◌≡◌, ℕ, zero, suc, ◌+◌, ◌<◌, ◌≤◌, ◌==◌, Bool, true, false, cond, List, [], ◌∷◌, ◌++◌, length, slice_index, get_or, Option, Some, None, refl, ap, sym, subst, ◌∙◌, arith}
+use Rattle.std.proofs.Common.{◌≡◌, ℕ, zero, suc, ◌+◌, ◌<◌, ◌≤◌, ◌==◌, Bool, true, false, cond, List, [], ◌∷◌, length, slice_index, get_or, Some, None, refl, ap, sym, subst, arith}
 use Rattle.std.specs.List.Sorted.{IsStrictlyIncreasing}
 use Rattle.std.proofs.lemmas.Bool.Decides.{nat_tests}
 use Rattle.svr_listing.specs.Joined.{is_in}
 use Rattle.svr_iter.specs.Layout.{IsPlaceOf}
 use Rattle.svr_iter.specs.Marks.{ids_of, mark_of}
 use Rattle.svr_iter.specs.Merging.{Up, above-less}
-use Rattle.svr_iter.specs.declared.marks.Mark.{Mark}
 use Rattle.svr_iter.specs.declared.marks.Marked.{Marked}
 use Rattle.svr_iter.proofs.LiveSteps.{no_mark}
 use Rattle.svr_iter.specs.Truths.{eq_less, eq_more}

@@ -1,7 +1,6 @@
 -- The greatest key of several lists, taken from each that has it.
-use Rattle.std.proofs.Common.{◌≡◌, ℕ, ◌<◌, ◌==◌, ◌||◌, Bool, true, false, cond, List, [], ◌∷◌, ◌++◌, map, refl, ap, sym, ◌∙◌, arith}
+use Rattle.std.proofs.Common.{◌≡◌, ℕ, ◌<◌, ◌||◌, Bool, true, false, cond, List, [], ◌∷◌, ◌++◌, map, refl, ap, sym, ◌∙◌, arith}
 use Rattle.std.specs.List.{AllByRecursion, flat_map}
-use Rattle.std.proofs.lemmas.Bool.Decides.{nat_tests}
 use Rattle.svr_listing.specs.declared.group.Group.{Group}
 use Rattle.svr_listing.specs.Listing.{descending, with_key}
 use Rattle.svr_listing.specs.Joined.{ids_at, keys_in}
@@ -75,7 +74,7 @@ keys-step : (key : ℕ) (old new : List Group) (ids : List ℕ) (took more : Boo
     (descending (map (λ (g : Group). g.key) new ++ left))
 keys-step key old new ids true true rest left is below less e =
     rw is (ap (with_key key) (descending-before key (map (λ (g : Group). g.key) new) rest left (less_keys key new below) e)
-        ∙ with_key-again key (descending (map (λ (g : Group). g.key) new ++ left)))
+    ∙ with_key-again key (descending (map (λ (g : Group). g.key) new ++ left)))
 keys-step key old new ids true false rest left is below less e =
     rw is (ap (with_key key) (descending-same (map (λ (g : Group). g.key) new) rest left e)
     ∙ with_key-first key (descending (map (λ (g : Group). g.key) new ++ left))
@@ -90,7 +89,7 @@ pub keys_in-step : (key : ℕ) (steps : List Step) → AllByRecursion (IsStep ke
 keys_in-step key [] all = refl
 keys_in-step key (s ∷ ss) all =
     keys-step key s.old s.new s.ids s.took (some_took ss) (flat (olds ss)) (flat (news ss)) all.0.is all.0.below (news_less key ss all.1)
-        (keys_in-step key ss all.1)
+    (keys_in-step key ss all.1)
 
 -- ---- ids at a key
 
@@ -139,7 +138,7 @@ pub groups-step : (join : List (List ℕ) → List ℕ) (key : ℕ) (steps : Lis
     (λ k. record { key = k; ids = join (map (ids_at k) (news steps)) }) (keys_in (news steps))
 groups-step join key steps all some =
     ap (λ (ks : List ℕ). map {B = Group} (λ k. record { key = k; ids = join (map (ids_at k) (olds steps)) }) ks)
-        (rw some at (keys_in-step key steps all))
+    (rw some at (keys_in-step key steps all))
     ∙ ap (λ (l : List (List ℕ)). record { key = key; ids = join l } ∷ map {B = Group}
     (λ k. record { key = k; ids = join (map (ids_at k) (olds steps)) }) (keys_in (news steps))) (ids_here key steps all)
     ∙ ap (λ (l : List Group). record { key = key; ids = join (map (λ (step : Step). step.ids) steps) } ∷ l)

@@ -1,8 +1,7 @@
 -- Keys in their order, as laws need them.
-use Rattle.std.proofs.Common.{◌≡◌, ℕ, ◌<◌, ◌≤◌, ◌==◌, true, false, List, [], ◌∷◌, ◌++◌, map, max, nat_lt, Option, Some, None, refl, ap, subst, ◌∙◌, arith}
+use Rattle.std.proofs.Common.{◌≡◌, ℕ, ◌<◌, ◌≤◌, ◌==◌, List, [], ◌∷◌, ◌++◌, map, max, nat_lt, Option, Some, None, refl, ap, subst, ◌∙◌, arith}
 use Rattle.std.specs.Bool.{⊤}
 use Rattle.std.specs.List.{AllByRecursion, flat_map}
-use Rattle.std.proofs.lemmas.Bool.Decides.{nat_tests}
 use Rattle.svr_listing.specs.Groups.{Descends, first_key}
 use Rattle.svr_listing.specs.declared.group.Group.{Group}
 use Rattle.svr_listing.specs.Listing.{descending, with_key}

@@ -30,7 +30,7 @@ pub marks_up : (key : ℕ) (all : List MarksAt) → AreMarks all → Up (ids_of 
 marks_up key [] are = tt
 marks_up key (m ∷ ms) are =
     if_at (m.key == key) (λ (l : List Marked). Up (ids_of l)) m.marks (marks_at key ms) are.each.0.ascending
-        (marks_up key ms (record { descend = are.descend.1; each = are.each.1 }))
+    (marks_up key ms (record { descend = are.descend.1; each = are.each.1 }))
 
 added-first-step : (b : Bool) (g : Group) (gs : List Group) (o : Option ℕ) → first_key gs ≡ o
     → first_key (cond b (g ∷ gs) gs) ≡ cond b (Some g.key) o
@@ -47,7 +47,7 @@ added-less : (below : Option ℕ) (key : ℕ) (all : List MarksAt) → AllLess k
 added-less below key [] less = tt
 added-less below key (m ∷ ms) less =
     if_at (is_below m.key below && has_add m.marks) (AllByRecursion (λ (group : Group). group.key < key))
-        (record { key = m.key; ids = ids_of m.marks } ∷ added_below below ms) (added_below below ms)
+    (record { key = m.key; ids = ids_of m.marks } ∷ added_below below ms) (added_below below ms)
     (less.0, added-less below key ms less.1) (added-less below key ms less.1)
 
 pub added-down : (below : Option ℕ) (all : List MarksAt) → AreMarks all → Descends (added_below below all)
@@ -55,7 +55,7 @@ added-down below [] are = tt
 added-down below (m ∷ ms) are =
     let rest = added-down below ms (record { descend = are.descend.1; each = are.each.1 }) in
     if_at (is_below m.key below && has_add m.marks) Descends (record { key = m.key; ids = ids_of m.marks } ∷ added_below below ms)
-        (added_below below ms)
+    (added_below below ms)
     (added-less below m.key ms are.descend.0, rest) rest
 
 added-fits : (below : Option ℕ) (all : List MarksAt) → AllByRecursion IsMarksAt all
@@ -63,14 +63,14 @@ added-fits : (below : Option ℕ) (all : List MarksAt) → AllByRecursion IsMark
 added-fits below [] each = tt
 added-fits below (m ∷ ms) each =
     if_at (is_below m.key below && has_add m.marks) (λ (l : List Group). AllByRecursion (λ key. key < 2 ^ 48) (keys_of l))
-        (record { key = m.key; ids = ids_of m.marks } ∷ added_below below ms) (added_below below ms)
+    (record { key = m.key; ids = ids_of m.marks } ∷ added_below below ms) (added_below below ms)
     (each.0.key_fits, added-fits below ms each.1) (added-fits below ms each.1)
 
 pub next-fits : (below : Option ℕ) (all : List MarksAt) → AllByRecursion IsMarksAt all → IfSome (next_add below all) (λ key. key < 2 ^ 48)
 next-fits below [] each = tt
 next-fits below (m ∷ ms) each =
     if_at (is_below m.key below && has_add m.marks) (λ (o : Option ℕ). IfSome o (λ key. key < 2 ^ 48)) (Some m.key)
-        (next_add below ms) each.0.key_fits (next-fits below ms each.1)
+    (next_add below ms) each.0.key_fits (next-fits below ms each.1)
 
 -- ---- the ids at a key
 

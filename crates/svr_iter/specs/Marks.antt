@@ -54,8 +54,11 @@ marks_at key (one ∷ all) = if one.key == key then one.marks else marks_at key 
 abbrev pub added_below : Option ℕ → List MarksAt → List Group
 added_below below [] = []
 added_below below (one ∷ all) =
-    if is_below one.key below && has_add one.marks then record { key = one.key; ids =
-        ids_of one.marks } ∷ added_below below all else added_below below all
+    if is_below one.key below && has_add one.marks then record {
+      key = one.key;
+      ids =
+          ids_of one.marks;
+    } ∷ added_below below all else added_below below all
 
 -- the first key of these
 abbrev pub next_add : Option ℕ → List MarksAt → Option ℕ
@@ -87,7 +90,7 @@ live_ids entry key marks posted = filter (λ id. stands (entry id) key (mark_of 
 abbrev pub live_groups : (ℕ → Option ListKey) → List MarksAt → Option ℕ → List Group → List Group
 live_groups entry all below posted =
     map (λ key. record { key = key; ids = live_ids entry key (marks_at key all) (ids_at key posted) })
-        (keys_in (posted ∷ added_below below all ∷ []))
+    (keys_in (posted ∷ added_below below all ∷ []))
 
 -- an id may come at a key where it is listed
 abbrev pub is_listed : (ℕ → Option ListKey) → ℕ → ℕ → Bool

@@ -1,8 +1,7 @@
 -- Groups in memory keep the law of postings, as laws need it.
-use Rattle.std.proofs.Common.{◌≡◌, ℕ, zero, suc, ◌<◌, ◌==◌, ◌&&◌, ◌||◌, Bool, true, false, List, [], ◌∷◌, ◌++◌, length, get_or, drop, refl, arith, subst}
+use Rattle.std.proofs.Common.{◌≡◌, ℕ, zero, suc, ◌<◌, ◌==◌, true, List, [], ◌∷◌, ◌++◌, length, get_or, drop, refl, arith, subst}
 use Rattle.std.specs.List.{AllByRecursion, AllByRecursion-prop, list_any}
 use Rattle.std.proofs.Props.{props}
-use Rattle.std.proofs.lemmas.Bool.Decides.{nat_tests}
 use Rattle.std.proofs.lemmas.List.{append_assoc}
 use Rattle.svr_listing.specs.Groups.{AreGroups, Descends, IsGroup, IsOrdered, first_key}
 use Rattle.svr_listing.specs.declared.group.Group.{Group}
@@ -26,7 +25,7 @@ allowed_from front [] are = tt
 allowed_from front (g ∷ gs) are = (
   record { ordered = are.0; allowed = λ k d lt. holds_behind front (g ∷ gs) g.key _ (holds_first g gs k d lt) },
   subst (λ (l : List Group). AllByRecursion (IsGroup (holds l)) gs) (append_assoc front (g ∷ []) gs)
-  (allowed_from (front ++ g ∷ []) gs are.1),
+      (allowed_from (front ++ g ∷ []) gs are.1),
 )
 
 descends-drop : (n : ℕ) (gs : List Group) → Descends gs → Descends (drop n gs)

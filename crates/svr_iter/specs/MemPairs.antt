@@ -1,5 +1,5 @@
 -- Posted pairs in memory, and that they keep the law.
-use Rattle.std.proofs.Common.{◌≡◌, ℕ, zero, suc, ◌+◌, ◌<◌, ◌≤◌, ◌^◌, ◌==◌, ◌&&◌, ◌||◌, Bool, true, false, cond, List, [], ◌∷◌, ◌++◌, drop, length, get_or, nat_lt, refl, ap, sym, subst, ◌∙◌, arith, add-one}
+use Rattle.std.proofs.Common.{◌≡◌, ℕ, zero, suc, ◌<◌, ◌≤◌, ◌^◌, ◌==◌, ◌&&◌, ◌||◌, Bool, true, false, cond, List, [], ◌∷◌, drop, nat_lt, refl, sym, subst, ◌∙◌, arith}
 use Rattle.std.specs.Bool.{⊤}
 use Rattle.std.specs.List.{AllByRecursion, list_all}
 use Rattle.std.proofs.lemmas.Bool.Decides.{nat_tests}
@@ -79,8 +79,14 @@ follow-with p q (g ∷ gs) e all = one (g.key == q.key) refl
   where
     one : (b : Bool) → (g.key == q.key) ≡ b → AllByRecursion (Follows p)
         (cond b (record { key = q.key; ids = q.id ∷ g.ids } ∷ gs) (record { key = q.key; ids = q.id ∷ [] } ∷ g ∷ gs))
-    one true f = (record { key_low = before_low p q e; ids_high =
-        λ h. (before_high p q e h, all.0.ids_high (eq_from g.key q.key f ∙ h)) }, all.1)
+    one true f = (
+      record {
+        key_low = before_low p q e;
+        ids_high =
+            λ h. (before_high p q e h, all.0.ids_high (eq_from g.key q.key f ∙ h));
+      },
+      all.1,
+    )
     one false f = (record { key_low = before_low p q e; ids_high = λ h. (before_high p q e h, tt) }, all)
 
 follow : (p : Pair) (ps : List Pair) → AllByRecursion (λ q. is_before p q ≡ true) ps → AllByRecursion (Follows p) (grouped ps)
@@ -106,16 +112,17 @@ runs-with p (g ∷ gs) fits all good = one (g.key == p.key) refl
     one : (b : Bool) → (g.key == p.key) ≡ b
         → Descends (cond b (record { key = p.key; ids = p.id ∷ g.ids } ∷ gs) (record { key = p.key; ids = p.id ∷ [] } ∷ g ∷ gs))
         × AllByRecursion IsRun (cond b (record { key = p.key; ids = p.id ∷ g.ids } ∷ gs)
-            (record { key = p.key; ids = p.id ∷ [] } ∷ g ∷ gs))
+        (record { key = p.key; ids = p.id ∷ [] } ∷ g ∷ gs))
     one true f =
         let same : g.key ≡ p.key = eq_from g.key p.key f in (
           (subst (λ (n : ℕ). AllByRecursion (λ (later : Group). later.key < n) gs) same good.0.0, good.0.1),
           (record { key_fits = fits.0; up = (all.0.ids_high same, good.1.0.up); ids_fit = (fits.1, good.1.0.ids_fit) }, good.1.1),
         )
     one false f =
-        let low : g.key < p.key = grind (arith, nat_tests, all.0.key_low) in
-        (((low, lower p.key g.key gs good.0.0 low), good.0),
-        (record { key_fits = fits.0; up = (tt, tt); ids_fit = (fits.1, tt) }, good.1))
+        let low : g.key < p.key = grind (arith, nat_tests, all.0.key_low) in (
+          ((low, lower p.key g.key gs good.0.0 low), good.0),
+          (record { key_fits = fits.0; up = (tt, tt); ids_fit = (fits.1, tt) }, good.1),
+        )
 
 runs : (ps : List Pair) → IsPaged ps → Descends (grouped ps) × AllByRecursion IsRun (grouped ps)
 runs [] are = (tt, tt)

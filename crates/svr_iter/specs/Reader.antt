@@ -3,7 +3,6 @@ use Rattle.std.specs.Prelude.{◌≡◌, ◌≤◌, ℕ, List, Option, Result, E
 use Rattle.svr_edge.specs.Causes.{Rose}
 use Rattle.svr_postpage.specs.declared.page_ref.PageFault.TheVariants as PageFault
 use Rattle.svr_iter.specs.declared.fault.ScanFault.{ScanFault}
-use Rattle.svr_iter.specs.declared.fault.ScanFault.TheVariants as ScanFault
 
 -- it tells the same bytes, may be asked for pages again, its count of faults has not fallen, and a read that failed was counted
 pub record KeepsReader {R T : Type 0} (told : R → Option (List ℕ)) (ready : R → Type 0) (faults : R → ℕ) (old new : R)

@@ -16,7 +16,7 @@ IsLess (Some later) (Some key) = later < key
 abbrev pub KeepsBelow : Option ℕ → (ℕ → List PageRef) → (ℕ → List PageRef) → Type 0
 KeepsBelow key old new = (k : ℕ) → k < unwrap_or key 0 → new k ≡ old k
 
--- the first group was taken away, and it has these ids: so it is where the reader tells bytes, and whatever it tells they ascend and may come there
+-- the first group was taken away, which has these ids: where the reader tells bytes it is so by these, and in any case they may come there
 pub record TakesGroup {S : Type 0} (groups : S → List ℕ → List Group) (next : S → Option ℕ) (may : S → ℕ → ℕ → Bool)
     (pages : S → ℕ → List PageRef)
     (told : Option (List ℕ)) (old new : S) (ids : List ℕ) : Type 0 where

@@ -77,7 +77,8 @@ impl<'a, L: LongSource + Drop, S: ShortSource, K: KeySource> Live<'a, L, S, K> {
     ) -> Live<'a, L, S, K>
         ensures groups { (bytes : List ℕ) → ⟦<Live<'a, L, S, K> as Postings>⟧.groups result bytes
             ≡ live_groups (K.entry keys.now) (S.marks short.now term.now) None (L.groups long bytes) }
-        ensures next { ⟦<Live<'a, L, S, K> as Postings>⟧.next result ≡ greatest (L.next long ∷ next_add None (S.marks short.now term.now) ∷ []) }
+        ensures next { ⟦<Live<'a, L, S, K> as Postings>⟧.next result
+            ≡ greatest (L.next long ∷ next_add None (S.marks short.now term.now) ∷ []) }
         ensures may { ⟦<Live<'a, L, S, K> as Postings>⟧.may result ≡ is_listed (K.entry keys.now) }
         ensures pages { ⟦<Live<'a, L, S, K> as Postings>⟧.pages result ≡ L.pages long }
         ensures listing { (l : Listing) (read : PageRef → List Pair) (bytes : List ℕ)
@@ -105,7 +106,8 @@ impl<'a, L: LongSource + Drop, S: ShortSource, K: KeySource> Postings for Live<'
 
     ghost pages = { λ s. L.pages s.long };
 
-    ghost lawful = { λ s bytes. live-lawful (K.entry s.keys.now) (S.marks s.short.now s.term.now) s.below (L.next s.long) (L.groups s.long bytes) (S.lawful s.short.now s.term.now) (L.lawful s.long bytes) };
+    ghost lawful = { λ s bytes. live-lawful (K.entry s.keys.now) (S.marks s.short.now s.term.now) s.below (L.next s.long)
+        (L.groups s.long bytes) (S.lawful s.short.now s.term.now) (L.lawful s.long bytes) };
 
     ghost gone = { λ s. live-gone (L.next s.long) (L.pages s.long) (next_add s.below (S.marks s.short.now s.term.now)) (L.gone s.long) };
 

@@ -144,13 +144,7 @@ fn mark_at(marks: &[Marked], place: usize, id: DocId) -> Option<Mark>
 }
 
 /// Whether an id stands at the key that is posted there or has a mark. It looks up the entry of no other.
-fn is_live<K: KeySource>(
-    keys: &K,
-    key: u64,
-    id: DocId,
-    is_posted: bool,
-    mark: Option<Mark>,
-) -> bool
+fn is_live<K: KeySource>(keys: &K, key: u64, id: DocId, is_posted: bool, mark: Option<Mark>) -> bool
     ensures { result ≡ (stands (K.entry keys.now id) key mark && (has_mark mark || is_posted)) }
 {
     if is_posted || mark.is_some() {

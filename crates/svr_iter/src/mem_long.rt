@@ -12,15 +12,11 @@ use svr_num::DocId;
 use svr_postpage::{PageReader, Pair};
 
 /// Leaves in `ids` the ids of the pairs from a place on that have the same key; the place behind them.
-fn take_run(
-    pairs: &[Pair],
-    from: usize,
-    key: u64,
-    ids: &mut Vec<DocId>,
-) -> Result<usize, Memory>
+fn take_run(pairs: &[Pair], from: usize, key: u64, ids: &mut Vec<DocId>) -> Result<usize, Memory>
     requires from { from < length pairs.now }
     requires key { first_key (grouped (drop from pairs.now)) ≡ Some key }
-    ensures { IfOk result (λ end. (end ≤ length pairs.now) × (grouped (drop from pairs.now) ≡ record { key = key; ids = ids.new.items } ∷ grouped (drop end pairs.now))) }
+    ensures within { IfOk result (λ end. end ≤ length pairs.now) }
+    ensures run { IfOk result (λ end. grouped (drop from pairs.now) ≡ record { key = key; ids = ids.new.items } ∷ grouped (drop end pairs.now)) }
 {
     ids.clear();
     let mut at = from;

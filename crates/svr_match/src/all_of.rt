@@ -23,7 +23,8 @@ pub struct AllOf<P> {
 
 impl<P: Postings + Drop> AllOf<P> {
     pub fn new(first: P, others: Vec<P>) -> AllOf<P>
-        ensures groups { (bytes : List ℕ) → ⟦<AllOf<P> as Postings>⟧.groups result bytes ≡ groups_in_all (map (λ p. P.groups p bytes) (first ∷ others.items)) }
+        ensures groups { (bytes : List ℕ) → ⟦<AllOf<P> as Postings>⟧.groups result bytes
+            ≡ groups_in_all (map (λ p. P.groups p bytes) (first ∷ others.items)) }
         ensures next { ⟦<AllOf<P> as Postings>⟧.next result ≡ greatest (map P.next (first ∷ others.items)) }
         ensures may { ⟦<AllOf<P> as Postings>⟧.may result ≡ may_in mode.All (map P.may (first ∷ others.items)) }
         ensures pages { (key : ℕ) → ⟦<AllOf<P> as Postings>⟧.pages result key ≡ flat_map (λ p. P.pages p key) (first ∷ others.items) }

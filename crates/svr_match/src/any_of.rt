@@ -24,7 +24,8 @@ pub struct AnyOf<P> {
 
 impl<P: Postings + Drop> AnyOf<P> {
     pub fn new(alloc: Global, lists: Vec<P>) -> AnyOf<P>
-        ensures groups { (bytes : List ℕ) → ⟦<AnyOf<P> as Postings>⟧.groups result bytes ≡ groups_in_any (map (λ p. P.groups p bytes) lists.items) }
+        ensures groups { (bytes : List ℕ) → ⟦<AnyOf<P> as Postings>⟧.groups result bytes
+            ≡ groups_in_any (map (λ p. P.groups p bytes) lists.items) }
         ensures next { ⟦<AnyOf<P> as Postings>⟧.next result ≡ greatest (map P.next lists.items) }
         ensures may { ⟦<AnyOf<P> as Postings>⟧.may result ≡ may_in mode.Any (map P.may lists.items) }
         ensures pages { (key : ℕ) → ⟦<AnyOf<P> as Postings>⟧.pages result key ≡ flat_map (λ p. P.pages p key) lists.items }

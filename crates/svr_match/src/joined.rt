@@ -70,7 +70,8 @@ pub(crate) fn take_each<P: Postings, R: PageReader>(
     requires up_to { AllByRecursion (λ list. IsUpTo key (P.next list)) lists.old.items }
     requires fits { key < 2 ^ 48 }
     requires ready { R.ready reader.old }
-    ensures takes { OnOk result (AreTaken P.groups P.next P.may P.pages (R.told reader.old) key lists.old.items lists.new.items (λ all. ids.new.items ≡ any_of all)) }
+    ensures takes { OnOk result (AreTaken P.groups P.next P.may P.pages (R.told reader.old) key lists.old.items lists.new.items
+        (λ all. ids.new.items ≡ any_of all)) }
     ensures asks { Asks R.asked (flat_map (λ list. P.pages list key) lists.old.items) reader.old reader.new result }
     ensures reader { KeepsReader R.told R.ready R.faults reader.old reader.new result }
 {

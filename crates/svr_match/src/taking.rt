@@ -56,7 +56,8 @@ pub(crate) fn keep_at<P: Postings, R: PageReader>(
     requires fits { key < 2 ^ 48 }
     requires ready { R.ready reader.old }
     requires ascending { IsStrictlyIncreasing ids.old.items }
-    ensures keeps { OnOk result (KeepsAt P.groups P.next P.may P.pages (R.told reader.old) key list.old list.new ids.old.items ids.new.items) }
+    ensures keeps { OnOk result (KeepsAt P.groups P.next P.may P.pages (R.told reader.old) key list.old list.new
+        ids.old.items ids.new.items) }
     ensures asks { Asks R.asked (P.pages list.old key) reader.old reader.new result }
     ensures reader { KeepsReader R.told R.ready R.faults reader.old reader.new result }
 {

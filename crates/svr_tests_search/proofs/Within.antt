@@ -15,7 +15,8 @@ at_member : (P : ℕ → Type 0) (id : ℕ) (xs : List ℕ) → AllByRecursion P
 at_member P id [] all e = absurd (cc)
 at_member P id (x ∷ xs) all e = one (x == id) refl e (at_member P id xs all.1)
   where
-    one : (b : Bool) → (x == id) ≡ b → (b || list_any (λ other. other == id) xs) ≡ true → (list_any (λ other. other == id) xs ≡ true → P id) → P id
+    one : (b : Bool) → (x == id) ≡ b → (b || list_any (λ other. other == id) xs) ≡ true
+        → (list_any (λ other. other == id) xs ≡ true → P id) → P id
     one true same h rest = subst P (eq_from x id same) all.0
     one false same h rest = rest h
 
@@ -24,7 +25,8 @@ pub within_all : (score : ℕ → Option ℕ) (bound : ℕ → ℕ) (groups : Li
     → (key id : ℕ) → holds groups key id ≡ true → ForSome (score id) (λ s. s ≤ bound key)
 within_all score bound [] each key id e = absurd (cc)
 within_all score bound (g ∷ gs) each key id e =
-    one ((g.key == key) && list_any (λ other. other == id) g.ids) refl e (within_all score bound gs (λ k d lt. each (suc k) d (omega arith)) key id)
+    one ((g.key == key) && list_any (λ other. other == id) g.ids) refl e
+        (within_all score bound gs (λ k d lt. each (suc k) d (omega arith)) key id)
   where
     here : ((g.key == key) && list_any (λ other. other == id) g.ids) ≡ true → ForSome (score id) (λ s. s ≤ bound key)
     here f = subst (λ (k : ℕ). ForSome (score id) (λ s. s ≤ bound k)) (eq_from g.key key (and_left _ _ f))

@@ -74,7 +74,8 @@ fn ids_within<S: Scores>(ids: &[DocId], bound: Score, scores: &S) -> bool
 /// Whether no id has a score above the bound of its key.
 pub fn are_bounded<M: Method, S: Scores>(groups: &[Group], scores: &S, method: &M) -> bool
     requires { AllByRecursion IsOrdered groups.now }
-    ensures { result ≡ true → (key id : ℕ) → holds groups.now key id ≡ true → ForSome (S.score_of scores.now id) (λ score. score ≤ (M.rules method.now).bound key) }
+    ensures { result ≡ true → (key id : ℕ) → holds groups.now key id ≡ true
+        → ForSome (S.score_of scores.now id) (λ score. score ≤ (M.rules method.now).bound key) }
 {
     for group in groups {
         if !ids_within(group.ids.as_slice(), method.bound(group.key), scores) {

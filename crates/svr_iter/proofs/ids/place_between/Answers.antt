@@ -13,7 +13,7 @@ loop-low-preserved-then-ids-middle c =
       below = λ j lt.
           let far : slice_index c.args.ids.now j ≤ slice_index c.args.ids.now middle =
           rises c.args.ids.now c.requires.ascending j middle (omega arith)
-              (omega (arith, c.loop-low-test.true, c.loop-low.invariant.within)) in
+          (omega (arith, c.loop-low-test.true, c.loop-low.invariant.within)) in
           omega (arith, c.if-ids-middle.true);
       at = c.loop-low.invariant.at;
     }

@@ -14,7 +14,7 @@ loop-low-preserved c =
       below = λ j lt.
           let far : slice_index c.args.ids.now j ≤ slice_index c.args.ids.now last =
           rises c.args.ids.now c.requires.ascending j last (omega (arith, c.loop-low.invariant.some))
-              (omega (arith, c.loop-low.invariant.some, there.0)) in
+          (omega (arith, c.loop-low.invariant.some, there.0)) in
           let here : slice_index c.args.ids.now last < c.args.id = there.1 last (omega (arith, c.loop-low.invariant.some)) in
           omega arith;
     }

@@ -9,4 +9,4 @@ returns-then-place-ids c = is_in-place c.args.id c.args.ids.now c.args.place c.r
 pub returns-else-place-ids : goal.returns-else-place-ids
 returns-else-place-ids c =
     lt_false c.args.place (length c.args.ids.now) c.if-place-ids.false
-        ∙ sym (not_in-place c.args.id c.args.ids.now c.args.place c.requires.place c.if-place-ids.false)
+    ∙ sym (not_in-place c.args.id c.args.ids.now c.args.place c.requires.place c.if-place-ids.false)

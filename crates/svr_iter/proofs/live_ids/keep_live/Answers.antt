@@ -2,7 +2,7 @@ use Rattle.std.proofs.Common.{◌≡◌, ◌<◌, ◌&&◌, ◌||◌, ℕ, Bool,
 use Rattle.std.proofs.lemmas.Grind.{get_or_default_zero}
 use Rattle.svr_listing.specs.Joined.{is_in}
 use Rattle.svr_iter.specs.Layout.{IsPlaceOf}
-use Rattle.svr_iter.specs.Marks.{has_mark, ids_of, live_ids, mark_of, stands}
+use Rattle.svr_iter.specs.Marks.{has_mark, ids_of, live_ids, stands}
 use Rattle.svr_iter.specs.declared.marks.Mark.{Mark}
 use Rattle.svr_iter.proofs.KeptIds.{AreKept-id, AreKept-more, IsPassed-more}
 use Rattle.svr_iter.proofs.Membership.{in_live}

@@ -1,4 +1,4 @@
-use Rattle.std.proofs.Common.{◌≡◌, Bool, Some, None, true, false, cond, get_or, ap, sym, ◌∙◌, arith, ◌==◌}
+use Rattle.std.proofs.Common.{◌≡◌, Bool, Some, None, true, false, cond, get_or, ap, sym, ◌∙◌, ◌==◌}
 use Rattle.svr_iter.specs.Truths.{eq_false, eq_true}
 use Rattle.svr_iter.specs.declared.marks.Mark.TheVariants as mark
 use Rattle.svr_iter.specs.declared.marks.Marked.{Marked}
@@ -19,10 +19,10 @@ returns-then-marks-place c =
 pub returns-else-place-marks : goal.returns-else-place-marks
 returns-else-place-marks c = elim c.else-place-marks.branch [
   | else-place-marks-via-then-place-marks+else-marks-place w ↦
-    let marked = get_or c.args.marks.now c.args.place first in
-    let e : (marked.id == c.args.id) ≡ false = eq_false marked.id c.args.id w.if-marks-place.false in
-    sym (mark_of-place c.args.id c.args.marks.now c.args.place first c.requires.marks c.requires.place w.if-place-marks.true
-    ∙ ap (λ (b : Bool). cond b (Some marked.mark) None) e)
+      let marked = get_or c.args.marks.now c.args.place first in
+      let e : (marked.id == c.args.id) ≡ false = eq_false marked.id c.args.id w.if-marks-place.false in
+      sym (mark_of-place c.args.id c.args.marks.now c.args.place first c.requires.marks c.requires.place w.if-place-marks.true
+      ∙ ap (λ (b : Bool). cond b (Some marked.mark) None) e)
   | else-place-marks-via-else-place-marks w ↦ sym
       (no_mark-place c.args.id c.args.marks.now c.args.place c.requires.place w.if-place-marks.false)
 ]

@@ -5,7 +5,7 @@ use Rattle.svr_iter.specs.Layout.{is_next}
 use Rattle.svr_iter.specs.Marks.{ids_of, live_ids, marks_at, next_add}
 use Rattle.svr_iter.specs.Merging.{Up}
 use Rattle.svr_iter.specs.declared.marks.Marked.{Marked}
-use Rattle.svr_iter.proofs.Living.{Sources, TakesBoth, below_then, key_is, live_fits, live_takes}
+use Rattle.svr_iter.proofs.Living.{key_is, live_fits, live_takes}
 use Rattle.svr_iter.proofs.live.LivePostings.keep_group.Goals as goal
 
 pub take_posted-requires-clause-fits : goal.take_posted-requires-clause-fits
