@@ -1,5 +1,5 @@
 -- What taking the greatest key from each list does to the groups of all of them.
-use Rattle.std.proofs.Common.{◌≡◌, ℕ, ◌<◌, ◌^◌, ◌||◌, Bool, true, List, [], ◌∷◌, ◌++◌, map, Option, Some, unwrap_or, refl, ap, sym, subst, ◌∙◌}
+use Rattle.std.proofs.Common.{◌≡◌, ℕ, ◌<◌, ◌^◌, Bool, true, List, [], ◌∷◌, ◌++◌, map, Option, Some, unwrap_or, refl, ap, sym, subst, ◌∙◌}
 use Rattle.std.specs.List.{AllByRecursion, flat_map}
 use Rattle.svr_num.specs.declared.mode.Mode.{Mode}
 use Rattle.svr_num.specs.declared.mode.Mode.TheVariants as mode
@@ -123,7 +123,7 @@ taken {P} m groups next may pages told key old new Holds are e fits law = record
     same_may [] all = refl
     same_may (t ∷ ts) all =
         ap (λ (f : ℕ → ℕ → Bool). f ∷ map may (map (λ (t : Turn P). t.new) ts)) all.0.same_may
-            ∙ ap (λ (l : List (ℕ → ℕ → Bool)). may t.old ∷ l) (same_may ts all.1)
+        ∙ ap (λ (l : List (ℕ → ℕ → Bool)). may t.old ∷ l) (same_may ts all.1)
 
     same_pages : (k : ℕ) → k < key → (ts : List (Turn P))
         → AllByRecursion (λ turn. TakesAt groups next may pages told key turn.old turn.new turn.ids) ts
@@ -131,7 +131,7 @@ taken {P} m groups next may pages told key old new Holds are e fits law = record
     same_pages k below [] all = refl
     same_pages k below (t ∷ ts) all =
         ap (λ (l : List PageRef). l ++ flat_map (λ p. pages p k) (map (λ (t : Turn P). t.new) ts)) (all.0.same_pages k below)
-            ∙ ap (λ (l : List PageRef). pages t.old k ++ l) (same_pages k below ts all.1)
+        ∙ ap (λ (l : List PageRef). pages t.old k ++ l) (same_pages k below ts all.1)
 
 abbrev pub all_in : {P : Type 0} → (P → List ℕ → List Group) → List P → List ℕ → List Group
 all_in groups ps bytes = groups_in_all (map (λ p. groups p bytes) ps)
@@ -193,6 +193,9 @@ with_first {P} groups next may pages told mid_told key old new olds news ids Hol
   olds = ap (λ (l : List P). old ∷ l) others.olds;
   news = ap (λ (l : List P). new ∷ l) others.news;
   holds = holds;
-  each = (first, subst (λ (t : Option (List ℕ)). AllByRecursion
-      (λ turn. TakesAt groups next may pages t key turn.old turn.new turn.ids) others.turns) same others.each);
+  each = (
+    first,
+    subst (λ (t : Option (List ℕ)). AllByRecursion
+        (λ turn. TakesAt groups next may pages t key turn.old turn.new turn.ids) others.turns) same others.each,
+  );
 }

@@ -1,7 +1,7 @@
 -- Ids of one list after another, put together.
 use Rattle.std.proofs.Common.{◌≡◌, ℕ, ◌&&◌, ◌||◌, Bool, true, false, cond, List, [], ◌∷◌, ◌++◌, filter, refl, ap, ap₂, sym, ◌∙◌}
 use mathlib.Core.Path.{fun_ext}
-use Rattle.std.specs.List.{list_all, list_any}
+use Rattle.std.specs.List.{list_all}
 use Rattle.svr_listing.specs.Joined.{either, is_in}
 use Rattle.svr_iter.specs.GroupLaws.{Up-filter}
 use Rattle.svr_iter.specs.Merging.{Up, Up-either}

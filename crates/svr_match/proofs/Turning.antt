@@ -79,7 +79,7 @@ length-more (y ∷ ys) x = let h = length-more ys x in omega arith
 pub Run-at : {P R : Type 0} {groups : P → List ℕ → List Group} {next : P → Option ℕ} {may : P → ℕ → ℕ → Bool} {pages : P → ℕ
     → List PageRef}
     {told : Option (List ℕ)} {asked : R → PageRef → R → Type 0} {key at : ℕ} {start now : List P} {from to : R} {Holds : List (List ℕ)
-        → Type 0}
+    → Type 0}
     → (run : Run groups next may pages told asked key at start now from to Holds) (d : P) → at < length now
     → (others : List P) × (run.rest ≡ get_or now at d ∷ others)
 Run-at {P} {R} {at = at} {now = now} run d lt =
@@ -89,7 +89,7 @@ Run-at {P} {R} {at = at} {now = now} run d lt =
 pub Run-up_to : {P R : Type 0} {groups : P → List ℕ → List Group} {next : P → Option ℕ} {may : P → ℕ → ℕ → Bool} {pages : P → ℕ
     → List PageRef}
     {told : Option (List ℕ)} {asked : R → PageRef → R → Type 0} {key at : ℕ} {start now : List P} {from to : R} {Holds : List (List ℕ)
-        → Type 0}
+    → Type 0}
     → Run groups next may pages told asked key at start now from to Holds → (d : P) → at < length now
     → AllByRecursion (λ list. IsUpTo key (next list)) start → IsUpTo key (next (get_or now at d))
 Run-up_to {P} {R} {next} {key = key} {at = at} {now = now} run d lt all =
@@ -101,7 +101,7 @@ Run-up_to {P} {R} {next} {key = key} {at = at} {now = now} run d lt all =
 pub Run-more : {P R T E : Type 0} {groups : P → List ℕ → List Group} {next : P → Option ℕ} {may : P → ℕ → ℕ → Bool} {pages : P → ℕ
     → List PageRef}
     {told : Option (List ℕ)} {asked : R → PageRef → R → Type 0} {key at : ℕ} {start now : List P} {from mid to : R} {Holds : List (List ℕ)
-        → Type 0}
+    → Type 0}
     → Run groups next may pages told asked key at start now from mid Holds
     → (d new : P) (more : List ℕ) (Then : List (List ℕ) → Type 0) (value : T) → at < length now
     → TakesAt groups next may pages told key (get_or now at d) new more
@@ -139,7 +139,7 @@ flat_olds f (t ∷ ts) = ap (λ (l : List PageRef). f t.old ++ l) (flat_olds f t
 pub Run-fault : {P R T E V F : Type 0} {groups : P → List ℕ → List Group} {next : P → Option ℕ} {may : P → ℕ → ℕ → Bool} {pages : P → ℕ
     → List PageRef}
     {told : Option (List ℕ)} {asked : R → PageRef → R → Type 0} {key at : ℕ} {start now : List P} {from mid to : R} {Holds : List (List ℕ)
-        → Type 0}
+    → Type 0}
     → Run groups next may pages told asked key at start now from mid Holds → (d : P) (result : Result T E) (f : F) → at < length now
     → Asks {R = R} {T = T} {E = E} asked (pages (get_or now at d) key) mid to result
     → Asks {R = R} {T = V} {E = F} asked (flat_map (λ list. pages list key) start) from to (Err f)
@@ -147,7 +147,7 @@ Run-fault {P} {R} {T} {E} {V} {F} {groups} {next} {may} {pages} {told} {asked} {
     result f lt asks =
     let here = Run-at run d lt in
     asked_some {R = R} {T = T} {E = E} {V = V} {F = F} asked _ _
-        (flat_map (λ list. pages list key) here.0) _ from mid to result f run.in_turn asks
+    (flat_map (λ list. pages list key) here.0) _ from mid to result f run.in_turn asks
     (ap (λ (l : List PageRef). l ++ (pages (get_or now at d) key ++ flat_map (λ list. pages list key) here.0))
     (sym (flat_olds (λ list. pages list key) run.turns))
     ∙ sym (flat_map-append (λ list. pages list key) (map (λ (t : Turn P). t.old) run.turns) (get_or now at d ∷ here.0))
@@ -163,25 +163,25 @@ no_rest (x ∷ xs) rest (suc n) e le = no_rest xs rest n (omega arith) (omega ar
 pub Run-none : {P R : Type 0} {groups : P → List ℕ → List Group} {next : P → Option ℕ} {may : P → ℕ → ℕ → Bool} {pages : P → ℕ
     → List PageRef}
     {told : Option (List ℕ)} {asked : R → PageRef → R → Type 0} {key at : ℕ} {start now : List P} {from to : R} {Holds : List (List ℕ)
-        → Type 0}
+    → Type 0}
     → (run : Run groups next may pages told asked key at start now from to Holds) → length now ≤ at → run.rest ≡ []
 Run-none {P} run le = no_rest (map (λ (t : Turn P). t.new) run.turns) run.rest _ (length-map _ run.turns ∙ run.count) (rw run.news le)
 
 olds_at_end : {P R : Type 0} {groups : P → List ℕ → List Group} {next : P → Option ℕ} {may : P → ℕ → ℕ → Bool} {pages : P → ℕ
     → List PageRef}
     {told : Option (List ℕ)} {asked : R → PageRef → R → Type 0} {key at : ℕ} {start now : List P} {from to : R} {Holds : List (List ℕ)
-        → Type 0}
+    → Type 0}
     → (run : Run groups next may pages told asked key at start now from to Holds) → length now ≤ at
     → map (λ (t : Turn P). t.old) run.turns ≡ start
 olds_at_end {P} run le =
     sym (append-nil (map (λ (t : Turn P). t.old) run.turns))
-        ∙ sym (ap (λ (l : List P). map (λ (t : Turn P). t.old) run.turns ++ l) (Run-none run le)) ∙ run.olds
+    ∙ sym (ap (λ (l : List P). map (λ (t : Turn P). t.old) run.turns ++ l) (Run-none run le)) ∙ run.olds
 
 -- all lists have had their turn
 pub Run-end : {P R : Type 0} {groups : P → List ℕ → List Group} {next : P → Option ℕ} {may : P → ℕ → ℕ → Bool} {pages : P → ℕ
     → List PageRef}
     {told : Option (List ℕ)} {asked : R → PageRef → R → Type 0} {key at : ℕ} {start now : List P} {from to : R} {Holds : List (List ℕ)
-        → Type 0}
+    → Type 0}
     → Run groups next may pages told asked key at start now from to Holds → length now ≤ at
     → AreTaken groups next may pages told key start now Holds
 Run-end {P} run le =
@@ -198,7 +198,7 @@ Run-end {P} run le =
 pub Run-asks : {P R V F : Type 0} {groups : P → List ℕ → List Group} {next : P → Option ℕ} {may : P → ℕ → ℕ → Bool} {pages : P → ℕ
     → List PageRef}
     {told : Option (List ℕ)} {asked : R → PageRef → R → Type 0} {key at : ℕ} {start now : List P} {from to : R} {Holds : List (List ℕ)
-        → Type 0} (value : V)
+    → Type 0} (value : V)
     → Run groups next may pages told asked key at start now from to Holds → length now ≤ at
     → Asks {R = R} {T = V} {E = F} asked (flat_map (λ list. pages list key) start) from to (Ok value)
 Run-asks {P} {pages = pages} {key = key} value run le =

@@ -1,5 +1,5 @@
 -- The groups of several lists put together keep the law of postings, as laws need it.
-use Rattle.std.proofs.Common.{◌≡◌, ℕ, ◌<◌, ◌^◌, ◌==◌, ◌&&◌, ◌||◌, Bool, true, false, cond, List, [], ◌∷◌, ◌++◌, map, filter, Option, Some, None, refl, ap, ap₂, sym, subst, ◌∙◌, arith}
+use Rattle.std.proofs.Common.{◌≡◌, ℕ, ◌<◌, ◌^◌, ◌==◌, ◌&&◌, ◌||◌, Bool, true, false, List, [], ◌∷◌, ◌++◌, map, filter, Option, Some, refl, ap, sym, subst, ◌∙◌}
 use mathlib.Core.Path.{fun_ext}
 use Rattle.std.specs.List.{AllByRecursion, flat_map, list_all, list_any}
 use Rattle.std.specs.Option.{IfSome}
@@ -11,7 +11,7 @@ use Rattle.svr_listing.specs.declared.group.Group.{Group}
 use Rattle.svr_listing.specs.Joined.{any_at, common_at, either, groups_in_all, groups_in_any, ids_at, is_in, keys_in}
 use Rattle.svr_iter.specs.GroupLaws.{Up-filter, all-append, down_groups, filter-all, first_fits, first_group, from_all, greater_fits, law_groups, less_first, part_at, to_all}
 use Rattle.svr_iter.specs.KeyLaws.{descending-all, descending-down, first-keys, keys_of}
-use Rattle.svr_iter.specs.Keys.{greater, greatest}
+use Rattle.svr_iter.specs.Keys.{greatest}
 use Rattle.svr_iter.specs.Merging.{Up, Up-either, Up-from, Up-to, all-either}
 use Rattle.svr_iter.specs.Taking.{IsLess}
 use Rattle.svr_iter.specs.Truths.{and_left, and_right, both_true, eq_from, or_left, or_right}
@@ -79,7 +79,7 @@ in_any : (key : ℕ) (Q : ℕ → Type 0) (parts : List Part) → AllByRecursion
 in_any key Q [] all q = tt
 in_any key Q (part ∷ parts) all q = (
   subst (AllByRecursion Q) (keep part.ids)
-  (filter-all (λ i. part.may key i ≡ true) Q (λ i. true) part.ids (λ id e t. q id (or_left _ _ e)) (from_all _ part.ids all.0.allowed)),
+      (filter-all (λ i. part.may key i ≡ true) Q (λ i. true) part.ids (λ id e t. q id (or_left _ _ e)) (from_all _ part.ids all.0.allowed)),
   in_any key Q parts all.1 (λ id e. q id (or_right (part.may key id) _ e)),
 )
   where
@@ -94,7 +94,7 @@ allowed_in mode.Any key parts all = any-all _ (ids_of parts)
 allowed_in mode.All key [] all = tt
 allowed_in mode.All key (part ∷ parts) all =
     filter-all (λ id. part.may key id ≡ true) _ _ part.ids (λ id here e. both_true _ _ here (in_all key id parts all.1 e))
-        (from_all _ part.ids all.0.allowed)
+    (from_all _ part.ids all.0.allowed)
 
 ups : (key : ℕ) (parts : List Part) → AllByRecursion (ArePart key) parts → AllByRecursion Up (ids_of parts)
 ups key [] all = tt

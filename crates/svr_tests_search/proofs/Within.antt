@@ -1,5 +1,5 @@
 -- Scores within bounds, from what was seen of each group.
-use Rattle.std.proofs.Common.{◌≡◌, ℕ, suc, ◌+◌, ◌<◌, ◌≤◌, ◌==◌, ◌&&◌, ◌||◌, Bool, true, false, List, [], ◌∷◌, length, get_or, slice_index, Option, subst, refl, arith}
+use Rattle.std.proofs.Common.{◌≡◌, ℕ, suc, ◌<◌, ◌≤◌, ◌==◌, ◌&&◌, ◌||◌, Bool, true, false, List, [], ◌∷◌, length, get_or, slice_index, Option, subst, refl, arith}
 use Rattle.std.specs.List.{AllByRecursion, list_any}
 use Rattle.std.specs.Option.{ForSome}
 use Rattle.svr_listing.specs.declared.group.Group.{Group}
@@ -26,7 +26,7 @@ pub within_all : (score : ℕ → Option ℕ) (bound : ℕ → ℕ) (groups : Li
 within_all score bound [] each key id e = absurd (cc)
 within_all score bound (g ∷ gs) each key id e =
     one ((g.key == key) && list_any (λ other. other == id) g.ids) refl e
-        (within_all score bound gs (λ k d lt. each (suc k) d (omega arith)) key id)
+    (within_all score bound gs (λ k d lt. each (suc k) d (omega arith)) key id)
   where
     here : ((g.key == key) && list_any (λ other. other == id) g.ids) ≡ true → ForSome (score id) (λ s. s ≤ bound key)
     here f = subst (λ (k : ℕ). ForSome (score id) (λ s. s ≤ bound k)) (eq_from g.key key (and_left _ _ f))

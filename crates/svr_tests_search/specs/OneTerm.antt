@@ -1,5 +1,5 @@
 -- The marks and entries of one term, in small.
-use Rattle.std.proofs.Common.{ℕ, ◌==◌, ◌||◌, ◌<◌, ◌^◌, true, false, List, [], ◌∷◌, Option, Some, None, arith}
+use Rattle.std.proofs.Common.{ℕ, ◌==◌, ◌||◌, true, false, List, [], ◌∷◌, Option, Some, None, arith}
 use Rattle.std.specs.Bool.{if◌then◌else◌}
 use Rattle.svr_num.specs.declared.list_key.ListKey.{ListKey}
 use Rattle.svr_iter.specs.Marks.{AreMarks, MarksAt}

@@ -2,9 +2,9 @@
 #![tactic(auto)]
 
 #[cfg(test)]
-mod live;
-#[cfg(test)]
 mod lists;
+#[cfg(test)]
+mod live;
 #[cfg(test)]
 mod random;
 #[cfg(test)]

@@ -9,7 +9,9 @@ use svr_match::{AllOf, AnyOf};
 type Rows = &'static [(u64, &'static [u64])];
 
 const FIRST: Rows = &[(15, &[2, 9]), (10, &[3, 4, 7])];
+
 const SECOND: Rows = &[(15, &[9]), (10, &[3, 7, 8]), (5, &[1])];
+
 const THIRD: Rows = &[(10, &[7, 8]), (5, &[1, 2])];
 
 /// Lists; the groups of the ids that stand in all of them, and in any.
@@ -42,9 +44,7 @@ fn lists_of(alloc: Global, lists: &[Rows]) -> Result<Vec<MemPostings>, ScanFault
             Ok(groups) => groups,
             Err(_) => return Err(ScanFault::Memory),
         };
-        if MemPostings::are_ordered(&groups)
-            && postings.push(MemPostings::new(groups)).is_err()
-        {
+        if MemPostings::are_ordered(&groups) && postings.push(MemPostings::new(groups)).is_err() {
             return Err(ScanFault::Memory);
         }
     }

@@ -43,11 +43,23 @@ impl ShortSource for Marks {
     fn at_key(&self, _term: &Text, key: u64, into: &mut Vec<Marked>) -> Result<(), Memory> {
         into.clear();
         if key == 10 {
-            into.push(Marked { id: 3, mark: Mark::Add })?;
-            into.push(Marked { id: 7, mark: Mark::Rem })?;
+            into.push(Marked {
+                id: 3,
+                mark: Mark::Add,
+            })?;
+            into.push(Marked {
+                id: 7,
+                mark: Mark::Rem,
+            })?;
         } else if key == 4 {
-            into.push(Marked { id: 8, mark: Mark::Add })?;
-            into.push(Marked { id: 9, mark: Mark::Add })?;
+            into.push(Marked {
+                id: 8,
+                mark: Mark::Add,
+            })?;
+            into.push(Marked {
+                id: 9,
+                mark: Mark::Add,
+            })?;
         }
         Ok(())
     }
@@ -62,13 +74,25 @@ impl KeySource for Entries {
 
     fn listed(&self, id: DocId) -> Option<ListKey> {
         if id == 3 {
-            Some(ListKey { key: 10, moved: true })
+            Some(ListKey {
+                key: 10,
+                moved: true,
+            })
         } else if id == 6 || id == 7 {
-            Some(ListKey { key: 10, moved: false })
+            Some(ListKey {
+                key: 10,
+                moved: false,
+            })
         } else if id == 8 || id == 9 {
-            Some(ListKey { key: 4, moved: true })
+            Some(ListKey {
+                key: 4,
+                moved: true,
+            })
         } else if id == 2 {
-            Some(ListKey { key: 4, moved: false })
+            Some(ListKey {
+                key: 4,
+                moved: false,
+            })
         } else {
             None
         }

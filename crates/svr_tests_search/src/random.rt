@@ -81,7 +81,14 @@ fn searches(alloc: Global, rng: &mut Pcg32) -> Result<Option<bool>, ScanFault> {
     let k = 1 + rng.next_word() % 9;
     match rng.next_word() % 3 {
         0 => agrees(alloc, k, groups, &table, &IdMethod, &ListingMethod::Id),
-        1 => agrees(alloc, k, groups, &table, &ScoreMethod, &ListingMethod::Score),
+        1 => agrees(
+            alloc,
+            k,
+            groups,
+            &table,
+            &ScoreMethod,
+            &ListingMethod::Score,
+        ),
         _ => {
             let method = ThresholdMethod { num: 3, den: 2 };
             let plain = ListingMethod::Threshold { num: 3, den: 2 };

@@ -44,8 +44,14 @@ pub fn groups_of(alloc: Global, rows: &[(u64, &[u64])]) -> Result<Vec<Group>, Al
 
 fn table_of(alloc: Global, third: u64, ninth: u64) -> Result<Table, AllocError> {
     let mut rows = Vec::new(alloc);
-    rows.push(Hit { id: 3, score: third })?;
-    rows.push(Hit { id: 9, score: ninth })?;
+    rows.push(Hit {
+        id: 3,
+        score: third,
+    })?;
+    rows.push(Hit {
+        id: 9,
+        score: ninth,
+    })?;
     Ok(Table { rows })
 }
 

@@ -29,12 +29,7 @@ impl Scores for Table {
 }
 
 /// A group as a text: its key and its ids.
-fn push_group(
-    alloc: Global,
-    text: &mut String,
-    key: u64,
-    ids: &[DocId],
-) -> Result<(), AllocError> {
+fn push_group(alloc: Global, text: &mut String, key: u64, ids: &[DocId]) -> Result<(), AllocError> {
     text.push_str(&format!(in alloc; "{key}")?)?;
     for id in ids {
         text.push_str(&format!(in alloc; " {id}")?)?;
@@ -101,12 +96,5 @@ pub fn search<M: Method, S: Scores>(
     }
     let mut matches = MemPostings::new(groups);
     let mut reader = NoPages::new();
-    Ok(Some(scan(
-        alloc,
-        k,
-        &mut matches,
-        &mut reader,
-        scores,
-        method,
-    )?))
+    Ok(Some(scan(alloc, k, &mut matches, &mut reader, scores, method)?))
 }

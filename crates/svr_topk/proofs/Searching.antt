@@ -206,7 +206,7 @@ pub asked-fault : {R T V E F : Type 0} (told : Option (List ℕ)) (asked : R →
 asked-fault {R} {T} {V} {E} {F} told asked may k bound score old left pages now_pages n hits next start mid new e f so are goes same has
     asks =
     HasAsked-fault {R = R} {T = T} {V = V} {E = E} {F = F} told asked _ _ (now_pages (unwrap_or next 0)) start mid new e f has asks
-        (λ bytes at.
+    (λ bytes at.
     let key = unwrap_or next 0 in
     let some = goes_on-some next bound (kth_score k hits) goes in
     let first = first_group (left bytes) key ((are bytes).begin ∙ some.0) in

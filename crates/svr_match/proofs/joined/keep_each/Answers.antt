@@ -1,6 +1,5 @@
 use Rattle.std.proofs.Common.{◌≡◌, ◌<◌, ◌≤◌, List, Option, ℕ, length, get_or, subst, arith, ◌∙◌, refl}
 use Rattle.std.proofs.lemmas.List.Kept.{IsStrictlyIncreasing-filter}
-use Rattle.std.specs.List.Sorted.{IsStrictlyIncreasing}
 use Rattle.svr_listing.specs.Joined.{is_in}
 use Rattle.svr_iter.specs.Layout.{TakesAt}
 use Rattle.svr_iter.proofs.Asking.{asks_from_err}
@@ -42,7 +41,7 @@ loop-list-preserved g c =
       run = Run-more c.loop-list.invariant.run c.list-item.result c.keep_at.new.list keeps.ids
           (λ all. c.keep_at.new.ids.items ≡ common_with c.args.ids.now.items all) _ lt takes
           c.in_ok-keep_at.ensures.asks
-              (common-more c.args.ids.now.items c.loop-list.ids.items c.keep_at.new.ids.items keeps.ids keeps.kept);
+          (common-more c.args.ids.now.items c.loop-list.ids.items c.keep_at.new.ids.items keeps.ids keeps.kept);
       ascending = rw keeps.kept
           (IsStrictlyIncreasing-filter (λ id. is_in id keeps.ids) c.loop-list.ids.items c.loop-list.invariant.ascending);
       told = c.in_ok-keep_at.ensures.reader.same_told ∙ c.loop-list.invariant.told;

@@ -42,7 +42,7 @@ loop-list-preserved g c =
       run = Run-more c.loop-list.invariant.run c.list-item.result c.take_at.new.list c.take_at.new.ids.items
           (λ all. c.add_ids.new.ids.items ≡ any_of all) _ lt takes
           c.in_ok-take_at.ensures.asks
-              (any-more c.loop-list.ids.items c.add_ids.new.ids.items c.take_at.new.ids.items c.in_ok-add_ids.ensures);
+          (any-more c.loop-list.ids.items c.add_ids.new.ids.items c.take_at.new.ids.items c.in_ok-add_ids.ensures);
       told = c.in_ok-take_at.ensures.reader.same_told ∙ c.loop-list.invariant.told;
       ready = c.in_ok-take_at.ensures.reader.is_ready;
       later = omega (arith, c.in_ok-take_at.ensures.reader.later, c.loop-list.invariant.later);

@@ -1,6 +1,5 @@
-use Rattle.std.proofs.Common.{◌≡◌, ℕ, List, Bool, true, ap, sym, ◌∙◌, rules}
+use Rattle.std.proofs.Common.{◌≡◌, ℕ, Bool, true, ap, sym, ◌∙◌, rules}
 use Rattle.svr_iter.specs.Mem.{holds}
-use Rattle.svr_listing.specs.declared.group.Group.{Group}
 use Rattle.svr_tests_search.proofs.search.search.Goals as goal
 
 pub scan-requires-clause-bounded : goal.scan-requires-clause-bounded

@@ -42,7 +42,7 @@ returns-in_err-take_group-clause-asks g c =
     (g.P.Postings.pages c.args.matches.now) (g.P.Postings.pages c.groups.matches) c.groups.groups c.groups.top.hits
     (g.P.Postings.next c.groups.matches) _ _ _ _ f
     c.groups.invariant.so_far (λ bytes. g.met.P.Postings.lawful c.groups.matches bytes) goes
-        (pages_here _ _ _ _ _ goes c.groups.invariant.pages)
+    (pages_here _ _ _ _ _ goes c.groups.invariant.pages)
     c.groups.invariant.asked c.in_err-take_group.ensures.asks)
 
 pub groups-preserved : goal.groups-preserved
@@ -76,7 +76,7 @@ groups-preserved g c =
           (g.P.Postings.pages c.args.matches.now) (g.P.Postings.pages c.groups.matches) c.groups.groups c.groups.top.hits
           (g.P.Postings.next c.groups.matches) _ _ _ _
           c.groups.invariant.so_far (λ bytes. g.met.P.Postings.lawful c.groups.matches bytes) goes
-              (pages_here _ _ _ _ _ goes c.groups.invariant.pages)
+          (pages_here _ _ _ _ _ goes c.groups.invariant.pages)
           c.groups.invariant.asked c.in_ok-take_group.ensures.asks;
       told = c.in_ok-take_group.ensures.reader.same_told ∙ c.groups.invariant.told;
       ready = c.in_ok-take_group.ensures.reader.is_ready;
@@ -91,12 +91,12 @@ returns-clause-found g c =
     (kth_score m c.groups.top.hits) ≡ false)
     c.groups.invariant.top_k (sym c.has_to_go_on.ensures ∙ c.groups-test.false) in
     answers_at_end (g.R.PageReader.told c.args.reader.now) (g.P.Postings.may c.args.matches.now)
-        (g.P.Postings.may c.groups.matches) c.args.k
+    (g.P.Postings.may c.groups.matches) c.args.k
     (g.M.Method.rules c.args.method.now) (g.S.Scores.score_of c.args.scores.now) (g.P.Postings.groups c.args.matches.now)
     (g.P.Postings.groups c.groups.matches)
     c.groups.groups c.groups.top.hits c.from_vec.result (g.P.Postings.next c.groups.matches)
     c.requires.some c.requires.bounded (g.met.M.Method.lawful c.args.method.now) c.groups.invariant.may
-        (λ bytes. g.met.P.Postings.lawful c.groups.matches bytes)
+    (λ bytes. g.met.P.Postings.lawful c.groups.matches bytes)
     c.groups.invariant.so_far ends (c.from_vec.ensures ∙ c.into_hits.ensures)
 
 pub returns-clause-asks : goal.returns-clause-asks

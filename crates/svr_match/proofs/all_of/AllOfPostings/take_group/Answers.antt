@@ -1,4 +1,4 @@
-use Rattle.std.proofs.Common.{◌≡◌, ◌∷◌, List, ℕ, Option, Result, refl, subst, unwrap_or}
+use Rattle.std.proofs.Common.{◌≡◌, ◌∷◌, List, ℕ, Option, Result, subst, unwrap_or}
 use Rattle.std.specs.List.{flat_map}
 use Rattle.std.specs.Result.{OnOk}
 use Rattle.std.proofs.lemmas.Result.{on_ok_weaker}
@@ -38,4 +38,4 @@ returns-in_ok-take_at-in-Some-clause-asks g c =
     (flat_map (λ p. g.P.Postings.pages p (unwrap_or o 0)) (c.args.self.now.first ∷ c.args.self.now.others.items)) c.args.reader.now
     c.keep_each.new.reader c.keep_each.result)
     c.in-Some.ensures.key (asked_both g.R.PageReader.asked _ _ c.args.reader.now c.take_at.new.reader c.keep_each.new.reader _
-        c.keep_each.result c.in_ok-take_at-in-Some.ensures.asks c.keep_each.ensures.asks)
+    c.keep_each.result c.in_ok-take_at-in-Some.ensures.asks c.keep_each.ensures.asks)

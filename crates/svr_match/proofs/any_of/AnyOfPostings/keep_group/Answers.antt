@@ -1,4 +1,4 @@
-use Rattle.std.proofs.Common.{◌≡◌, List, ℕ, filter, refl, ap, ◌∙◌}
+use Rattle.std.proofs.Common.{List, ℕ, filter, refl, ap, ◌∙◌}
 use Rattle.std.specs.Global.{Vec}
 use Rattle.svr_listing.specs.Joined.{is_in}
 use Rattle.svr_iter.proofs.Choosing.{all_up_to, up_to_own}
@@ -17,7 +17,7 @@ returns-in_ok-keep_some-in-Some-clause-keeps g c =
     let t = any_taken g.P.Postings.groups g.P.Postings.next g.P.Postings.may g.P.Postings.pages
     (g.R.PageReader.told c.args.reader.now) c.in-Some.key
     c.args.self.now.lists.items c.keep_some.new.lists.items _ ids are c.in-Some.ensures.key c.in-Some.ensures.within
-        (λ p bytes. g.met.P.Postings.lawful p bytes) refl in
+    (λ p bytes. g.met.P.Postings.lawful p bytes) refl in
     record {
       ids = ids;
       takes = record { first = t.first; lawful = t.lawful; next_less = t.next_less; same_may = t.same_may; same_pages = t.same_pages };

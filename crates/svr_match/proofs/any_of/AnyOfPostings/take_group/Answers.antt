@@ -1,4 +1,4 @@
-use Rattle.std.proofs.Common.{◌≡◌, List, ℕ, Result}
+use Rattle.std.proofs.Common.{◌≡◌, Result}
 use Rattle.std.specs.Result.{OnOk}
 use Rattle.std.proofs.lemmas.Result.{on_ok_weaker}
 use Rattle.svr_iter.proofs.Choosing.{all_up_to, up_to_own}
@@ -18,6 +18,6 @@ returns-in-Some-clause-takes g c = on_ok c.take_each.result c.take_each.ensures.
     let t = any_taken g.P.Postings.groups g.P.Postings.next g.P.Postings.may g.P.Postings.pages
     (g.R.PageReader.told c.args.reader.now) c.in-Some.key
     c.args.self.now.lists.items c.take_each.new.lists.items
-        (λ all. c.take_each.new.ids.items ≡ any_of all) c.take_each.new.ids.items are c.in-Some.ensures.key c.in-Some.ensures.within
+    (λ all. c.take_each.new.ids.items ≡ any_of all) c.take_each.new.ids.items are c.in-Some.ensures.key c.in-Some.ensures.within
     (λ p bytes. g.met.P.Postings.lawful p bytes) are.holds in
     record { first = t.first; lawful = t.lawful; next_less = t.next_less; same_may = t.same_may; same_pages = t.same_pages })
