@@ -1,16 +1,16 @@
 -- The steps of the plain program.
-use Rattle.std.proofs.Common.{◌≡◌, ◌≢◌, ℕ, zero, suc, ◌+◌, ◌<◌, ◌==◌, ◌^◌, Bool, true, false, cond, List, [], ◌∷◌, ◌++◌, length}
-use Rattle.std.proofs.Common.{get_or}
-use Rattle.std.proofs.Common.{map, take, Option, None, refl, ap, sym, ◌∙◌, arith, nat_lt}
+use Rattle.std.proofs.Common.{◌≡◌, ◌≢◌, ℕ, zero, suc, ◌+◌, ◌<◌, ◌==◌, ◌^◌, Bool, true, false, cond, List, [], ◌∷◌, ◌++◌, length, get_or}
+use Rattle.std.proofs.Common.{map, take, Option, None, refl, ap, ap₂, sym, ◌∙◌, arith, nat_lt}
 use Rattle.std.specs.List.{All, AllByRecursion, IsFirstAndRest, flat_map, insert, prefix_len, slice_get}
 use Rattle.std.proofs.lemmas.Bool.Decides.{nat_tests}
-use Rattle.std.proofs.lemmas.List.{take_more}
+use Rattle.std.proofs.lemmas.List.{append_assoc, map-append, take_more}
 use Rattle.std.proofs.lemmas.List.Elements.{All-append}
 use Rattle.svr_num.specs.declared.hit.Hit.{Hit}
+use Rattle.svr_postpage.specs.declared.pair.Pair.{Pair}
 use Rattle.svr_listing.specs.Groups.{Group, IsOrdered, hits_of, ids_in}
 use Rattle.svr_listing.specs.Joined.{keys_in, with_id}
-use Rattle.svr_listing.specs.Layout.{with_keys}
-use Rattle.svr_listing.specs.Listing.{descending, with_key}
+use Rattle.svr_listing.specs.Layout.{with_keys, with_pair_keys}
+use Rattle.svr_listing.specs.Listing.{Listed, Listing, descending, groups_by, held, keys, matching_at, posted, with_key}
 use Rattle.svr_listing.specs.Visits.{stops, visited}
 use Rattle.svr_listing.proofs.Visiting.{hits_of-append, least-is}
 
@@ -150,3 +150,37 @@ pub keys_in-first : (lists : List (List Group)) (list : List Group) (rest : List
     → with_keys list (keys_in rest) ≡ keys_in lists
 keys_in-first lists list rest first =
     with_keys-descending list (flat_map (λ list. map (λ group. group.key) list) rest) ∙ ap keys_in (sym first.0)
+
+-- the keys of pairs among others
+pub with_pair_keys-descending : (pairs : List Pair) (keys : List ℕ)
+    → with_pair_keys pairs (descending keys) ≡ descending (map (λ pair. pair.key) pairs ++ keys)
+with_pair_keys-descending [] keys = refl
+with_pair_keys-descending (pair ∷ pairs) keys = ap (with_key pair.key) (with_pair_keys-descending pairs keys)
+
+-- the keys of one more term of a query
+pub keys-step : (l : Listing) (terms : List (List ℕ)) (term : List ℕ) (rest : List (List ℕ)) (found first second : List ℕ)
+    → IsFirstAndRest terms term rest → found ≡ keys l rest → first ≡ with_pair_keys (held l term) found
+    → second ≡ with_pair_keys (posted l term) first → second ≡ keys l terms
+keys-step l terms term rest found first second one is_found is_first is_second =
+    let others = flat_map (λ t. map (λ (pair : Pair). pair.key) (posted l t ++ held l t)) rest in
+    let held_keys = map (λ (pair : Pair). pair.key) (held l term) in
+    let posted_keys = map (λ (pair : Pair). pair.key) (posted l term) in
+    let first_is : first ≡ descending (held_keys ++ others) =
+    is_first ∙ ap (with_pair_keys (held l term)) is_found ∙ with_pair_keys-descending (held l term) others in
+    is_second ∙ ap (with_pair_keys (posted l term)) first_is ∙ with_pair_keys-descending (posted l term) (held_keys ++ others)
+    ∙ ap descending (sym (append_assoc posted_keys held_keys others)
+    ∙ ap (λ (ks : List ℕ). ks ++ others) (sym (map-append (λ (pair : Pair). pair.key) (posted l term) (held l term))))
+    ∙ ap (keys l) (sym one.0)
+
+-- ---- groups
+
+-- the group of one more key
+pub groups_by-step : (documents : List Listed) (test : Listed → Bool) (keys : List ℕ) (i : ℕ) (old new : List Group) (ids : List ℕ)
+    → i < length keys → new ≡ old ++ (record { key = get_or keys i 0; ids = ids } ∷ [])
+    → ids ≡ matching_at documents test (get_or keys i 0) → old ≡ groups_by documents test (take i keys)
+    → new ≡ groups_by documents test (take (i + 1) keys)
+groups_by-step documents test keys i old new ids lt added these so_far =
+    added
+    ∙ ap₂ (λ (groups : List Group) (ids : List ℕ). groups ++ (record { key = get_or keys i 0; ids = ids } ∷ [])) so_far these
+    ∙ sym (map-append (λ key. record { key = key; ids = matching_at documents test key }) (take i keys) (get_or keys i 0 ∷ []))
+    ∙ sym (ap (groups_by documents test) (take_more keys i 0 lt))

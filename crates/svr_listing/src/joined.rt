@@ -2,9 +2,9 @@ ghost use Rattle.std.specs.Prelude.{◌≡◌, ◌≤◌, IfNone, IfOk, IfSome, 
 ghost use Rattle.std.specs.List.{insert, prefix_len};
 ghost use Rattle.svr_listing.specs.Joined.{any_at, common_at, either, groups_in_all, groups_in_any, ids_at, is_in, keys_in, with_id};
 ghost use Rattle.svr_listing.specs.Layout.{with_keys};
-ghost use Rattle.svr_listing.specs.Listing.{with_key};
 
 use crate::group::Group;
+use crate::keys::insert_key;
 use std::alloc::Global;
 use svr_edge::{Items, Memory};
 use svr_num::DocId;
@@ -111,38 +111,6 @@ fn any_at(alloc: Global, key: u64, lists: &[Items<Group>]) -> Result<Vec<DocId>,
     let mut ids = any_at(alloc, key, rest)?;
     insert_ids(&mut ids, ids_at(key, list.as_slice()))?;
     Ok(ids)
-}
-
-/// How many keys stand in front of the first that isn't above `key`.
-fn place_of_key(keys: &[u64], key: u64) -> usize
-    ensures value { result ≡ prefix_len (λ other. nat_lt key other) keys.now }
-    ensures within { result ≤ length keys.now }
-{
-    keys.iter().take_while(|other| **other > key).count()
-}
-
-/// Where a key comes among descending keys, `None` where it is there.
-fn new_place_of_key(keys: &[u64], key: u64) -> Option<usize>
-    ensures within { IfSome result (λ at. at ≤ length keys.now) }
-    ensures new { IfSome result (λ at. insert keys.now at key ≡ with_key key keys.now) }
-    ensures there { IfNone result (keys.now ≡ with_key key keys.now) }
-{
-    let at = place_of_key(keys, key);
-    if at < keys.len() && keys[at] == key {
-        None
-    } else {
-        Some(at)
-    }
-}
-
-/// Adds a key at its place among descending keys, if it is not there.
-fn insert_key(keys: &mut Vec<u64>, key: u64) -> Result<(), Memory>
-    ensures { OnOk result (keys.new.items ≡ with_key key keys.old.items) }
-{
-    if let Some(at) = new_place_of_key(keys, key) {
-        keys.insert(at, key)?;
-    }
-    Ok(())
 }
 
 /// Adds the keys of groups.

@@ -25,6 +25,7 @@ unfoldable pub pairs_in_bytes : ℕ → List ℕ → List Pair
 pairs_in_bytes zero bytes = []
 pairs_in_bytes (suc count) bytes = pair_in bytes ∷ pairs_in_bytes count (drop 16 bytes)
 
+-- these pairs, where a page may hold them and these are its bytes
 abbrev pub if_page : List ℕ → List Pair → Option (List Pair)
 if_page bytes pairs = if fill_a_page pairs && bytes_eq bytes (page_bytes pairs) then Some pairs else None
 

@@ -14,9 +14,11 @@ use Rattle.svr_postpage.specs.Pairs.{ref_of}
 abbrev pub has_head_of : PageRef → PageRef → Bool
 has_head_of a b = (a.key == b.key) && ((a.id == b.id) && (a.count == b.count))
 
+-- no damage where a page found has the wanted head, else that it has another
 abbrev pub damage_by_head : PageRef → PageRef → Option Damage
 damage_by_head want found = if has_head_of want found then None else Some (damage.Head found.key found.id found.count)
 
+-- the same, by the pairs of the page found, if it is one
 abbrev pub damage_by_pairs : PageRef → Option (List Pair) → Option Damage
 damage_by_pairs want None = Some damage.NotAPage
 damage_by_pairs want (Some pairs) = damage_by_head want (ref_of want.at pairs)
@@ -30,6 +32,7 @@ abbrev pub TellsDamage : PageRef → Option (List ℕ) → PageFault → Type 0
 TellsDamage want told fault.Read = ⊤
 TellsDamage want told (fault.Damaged at why) = (at ≡ want.at) × ForSome told (λ bytes. damage_in want (bytes_at bytes at) ≡ Some why)
 
+-- the pairs of a page found, if it is one and has the wanted head
 abbrev pub pairs_with_head : PageRef → Option (List Pair) → List Pair
 pairs_with_head want None = []
 pairs_with_head want (Some pairs) = if has_head_of want (ref_of want.at pairs) then pairs else []

@@ -1,7 +1,7 @@
 use Rattle.std.proofs.Common.{sym, arith}
 use Rattle.svr_listing.proofs.Computing.{with_key-new, with_key-there}
-use Rattle.svr_listing.proofs.joined.new_place_of_key.Goals.{else-at-keys-via-then-at-keys+else-keys-at, else-at-keys-via-else-at-keys}
-use Rattle.svr_listing.proofs.joined.new_place_of_key.Goals as goal
+use Rattle.svr_listing.proofs.keys.new_place_of_key.Goals.{else-at-keys-via-then-at-keys+else-keys-at, else-at-keys-via-else-at-keys}
+use Rattle.svr_listing.proofs.keys.new_place_of_key.Goals as goal
 
 pub returns-then-keys-at-clause-there : goal.returns-then-keys-at-clause-there
 returns-then-keys-at-clause-there c =
