@@ -10,7 +10,8 @@ use Rattle.svr_listing.specs.Groups.{IsGroup}
 use Rattle.svr_listing.specs.declared.group.Group.{Group}
 use Rattle.svr_listing.specs.Joined.{ids_at, is_in, keys_in, term_groups}
 use Rattle.svr_listing.specs.Kept.{Ascends}
-use Rattle.svr_listing.specs.Listing.{Listed, Listing, descending, has_pair, has_term, held, is_held, is_removed, keys_by, listed_at, matching_at, pages_of, pairs_by, posted, stands_by}
+use Rattle.svr_listing.specs.declared.document.Listed.{Listed}
+use Rattle.svr_listing.specs.Listing.{Listing, descending, has_pair, has_term, held, is_held, is_removed, keys_by, listed_at, matching_at, pages_of, pairs_by, posted, stands_by}
 use Rattle.svr_listing.proofs.Answering.{any-descending}
 use Rattle.svr_listing.proofs.Truths.{any-filter, any-map}
 use Rattle.svr_iter.specs.Effective.{Tells, mark_by, mark_here}

@@ -71,34 +71,3 @@ takes_group may told old new ids are first = record {
   same_may = refl;
   same_pages = λ k lt. refl;
 }
-
--- ---- what tests of groups tell
-
-all_from : (P : Group → Type 0) (groups : List Group) → ((k : ℕ) (d : Group) → k < length groups → P (get_or groups k d))
-    → AllByRecursion P groups
-all_from P [] each = tt
-all_from P (g ∷ gs) each = (each 0 g (omega arith), all_from P gs (λ k d lt. each (suc k) d (omega arith)))
-
-pub ordered_from : (groups : List Group) → ((k : ℕ) (d : Group) → k < length groups → IsOrdered (get_or groups k d))
-    → AllByRecursion IsOrdered groups
-ordered_from groups each = all_from IsOrdered groups each
-
-falls_all : (key : ℕ) (groups : List Group) → IsLess (first_key groups) (Some key) → Descends groups
-    → AllByRecursion (λ later. later.key < key) groups
-falls_all key [] less down = tt
-falls_all key (g ∷ gs) less down = (less, lower gs down.0)
-  where
-    lower : (l : List Group) → AllByRecursion (λ later. later.key < g.key) l → AllByRecursion (λ later. later.key < key) l
-    lower [] all = tt
-    lower (h ∷ hs) all = (omega (arith, all.0, less), lower hs all.1)
-
--- keys of which each is below the one before it descend
-pub descends_from : (groups : List Group)
-    → ((k : ℕ) (d : Group) → k + 1 < length groups → (get_or groups (k + 1) d).key < (get_or groups k d).key) → Descends groups
-descends_from [] each = tt
-descends_from (g ∷ []) each = (tt, tt)
-descends_from (g ∷ h ∷ gs) each =
-    let rest : Descends (h ∷ gs) = descends_from (h ∷ gs) (λ k d lt.
-    let place : suc k + 1 ≡ suc (k + 1) = omega arith in
-    subst (λ (n : ℕ). (get_or (g ∷ h ∷ gs) n d).key < (get_or (h ∷ gs) k d).key) place (each (suc k) d (omega arith))) in
-    (falls_all g.key (h ∷ gs) (each 0 g (omega arith)) rest, rest)

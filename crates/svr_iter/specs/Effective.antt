@@ -6,7 +6,8 @@ use Rattle.svr_listing.specs.declared.group.Group.{Group}
 use Rattle.svr_postpage.specs.declared.pair.Pair.{Pair}
 use Rattle.svr_listing.specs.Joined.{ids_at, is_in}
 use Rattle.svr_listing.specs.Kept.{Ascends}
-use Rattle.svr_listing.specs.Listing.{Listed, Listing, descending, documents_of, entry_of, has_pair, is_held, is_removed, pages_of, pairs_by}
+use Rattle.svr_listing.specs.declared.document.Listed.{Listed}
+use Rattle.svr_listing.specs.Listing.{Listing, descending, documents_of, entry_of, has_pair, is_held, is_removed, pages_of, pairs_by}
 use Rattle.svr_iter.specs.Marks.{MarksAt, mark_of, marks_at}
 use Rattle.svr_iter.specs.declared.marks.Mark.{Mark}
 use Rattle.svr_iter.specs.declared.marks.Mark.TheVariants as mark

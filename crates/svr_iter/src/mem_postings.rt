@@ -1,7 +1,5 @@
-ghost use Rattle.std.specs.Prelude.{◌≡◌, ◌≤◌, ◌<◌, ◌^◌, ℕ, true, List, drop, [], length, refl};
-ghost use Rattle.std.specs.List.{All, AllByRecursion};
-ghost use Rattle.std.specs.List.Sorted.{IsStrictlyIncreasing};
-ghost use Rattle.svr_listing.specs.Groups.{AreGroups, Descends, IsOrdered, first_key};
+ghost use Rattle.std.specs.Prelude.{◌≡◌, ◌↔◌, ℕ, List, IsTrue, drop, [], length, refl};
+ghost use Rattle.svr_listing.specs.Groups.{AreGroups, Descends, first_key};
 ghost use Rattle.svr_iter.specs.Mem.{AreOrdered, holds};
 ghost use Rattle.svr_iter.specs.MemLaws.{AreGroups-drop, AreOrdered-prop};
 
@@ -9,64 +7,20 @@ use crate::fault::ScanFault;
 use crate::ids::keep_common;
 use crate::postings::Postings;
 use std::alloc::Global;
-use svr_listing::Group;
+use svr_listing::{Group, are_ordered};
 use svr_num::DocId;
 use svr_postpage::PageReader;
 
-/// Whether each id is above the one before it.
-fn ids_ascend(ids: &[DocId]) -> bool
-    ensures { result ≡ true → IsStrictlyIncreasing ids.now }
-{
-    for at in 1..ids.len() {
-        if ids[at] <= ids[at - 1] {
-            return false;
-        }
-    }
-    true
-}
-
-/// Whether each id is within its range.
-fn ids_fit(ids: &[DocId]) -> bool
-    ensures { result ≡ true → All (λ id. id < 2 ^ 63) ids.now }
-{
-    for id in ids {
-        if *id >= 1 << 63 {
-            return false;
-        }
-    }
-    true
-}
-
-/// Whether a group's key and ids are within their ranges, and its ids ascend.
-fn is_ordered(group: &Group) -> bool
-    ensures { result ≡ true → IsOrdered group.now }
-{
-    let ids = group.ids.as_slice();
-    group.key < 1 << 48 && ids_ascend(ids) && ids_fit(ids)
-}
-
-/// Whether each key is below the one before it.
+/// Whether the keys of groups descend. Each is compared with all later ones.
 fn keys_descend(groups: &[Group]) -> bool
-    ensures { result ≡ true → Descends groups.now }
+    ensures { IsTrue result ↔ Descends groups.now }
 {
-    for at in 1..groups.len() {
-        if groups[at].key >= groups[at - 1].key {
-            return false;
+    match groups.split_first() {
+        Some((group, rest)) => {
+            rest.iter().all(|later| later.key < group.key) && keys_descend(rest)
         }
+        None => true,
     }
-    true
-}
-
-/// Whether each group is in order.
-fn each_is_ordered(groups: &[Group]) -> bool
-    ensures { result ≡ true → AllByRecursion IsOrdered groups.now }
-{
-    for group in groups {
-        if !is_ordered(group) {
-            return false;
-        }
-    }
-    true
 }
 
 /// Groups in memory. It asks for no page.
@@ -80,9 +34,9 @@ pub struct MemPostings {
 impl MemPostings {
     /// Whether the groups' keys descend and are within their range, and so their ids ascend.
     pub fn are_ordered(groups: &[Group]) -> bool
-        ensures { result ≡ true → AreOrdered groups.now }
+        ensures { IsTrue result ↔ AreOrdered groups.now }
     {
-        keys_descend(groups) && each_is_ordered(groups)
+        keys_descend(groups) && are_ordered(groups)
     }
 
     pub fn new(groups: Vec<Group>) -> MemPostings
