@@ -1,0 +1,12 @@
+pub mod Asking
+pub mod Choosing
+pub mod Effecting
+pub mod KeptIds
+pub mod LiveSteps
+pub mod Living
+pub mod MemRun
+pub mod MemTaking
+pub mod Membership
+pub mod MergeSteps
+pub mod Places
+pub mod Stepping

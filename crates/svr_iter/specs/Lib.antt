@@ -1,0 +1,14 @@
+pub mod Effective
+pub mod GroupLaws
+pub mod KeyLaws
+pub mod Keys
+pub mod Layout
+pub mod LiveLaws
+pub mod Marks
+pub mod Mem
+pub mod MemLaws
+pub mod MemPairs
+pub mod Merging
+pub mod Reader
+pub mod Taking
+pub mod Truths

@@ -1,0 +1,16 @@
+use Rattle.std.proofs.Common.{◌≡◌, ◌≤◌}
+use Rattle.std.specs.List.Sorted.{IsStrictlyIncreasing}
+use Rattle.svr_match.specs.Joined.{common_with}
+use Rattle.svr_match.proofs.Turning.{Run}
+use Rattle.svr_match.proofs.joined.keep_each.Given as goal
+
+abbrev pub invariant-loop-list : goal.invariant-loop-list
+invariant-loop-list g l = record {
+  run : Run g.P.Postings.groups g.P.Postings.next g.P.Postings.may g.P.Postings.pages
+      (g.R.PageReader.told l.fn.reader) g.R.PageReader.asked
+      l.key l.list-index l.fn.lists.items l.list-items l.fn.reader l.reader (λ all. l.ids.items ≡ common_with l.fn.ids.items all);
+  ascending : IsStrictlyIncreasing l.ids.items;
+  told : g.R.PageReader.told l.reader ≡ g.R.PageReader.told l.fn.reader;
+  ready : g.R.PageReader.ready l.reader;
+  later : g.R.PageReader.faults l.fn.reader ≤ g.R.PageReader.faults l.reader;
+}
