@@ -70,21 +70,31 @@ print(resource.getrusage(resource.RUSAGE_CHILDREN).ru_maxrss * 1024)"
     return int(done.stdout)
 
 
-def updates(program, count):
+def session(count):
+    """What comes before the changes, and the changes: updates of visits of which each is as likely as any other."""
     chance = random.Random(count)
     rows = visits(chance, count)
     before = line(op="schema", schema=SCHEMA) + load("movies", movies()) + load("visits", rows)
     changes = "".join(
         line(op="update", table="visits", row=[*chance.choice(rows)[:2], chance.randrange(1_000)]) for _ in range(UPDATES)
     )
-    spent = min(seconds(program, before, changes) for _ in range(5))
-    print(f"{count} visits of {DOCUMENTS} documents: {spent / UPDATES * 1e6:.1f} us an update of one")
+    return before, changes
+
+
+def updates(program, counts):
+    """The least of several times each. Few and many take turns, so that a slow moment of the machine meets both."""
+    sessions = {count: session(count) for count in counts}
+    spent = {count: [] for count in counts}
+    for _ in range(8):
+        for count, (before, changes) in sessions.items():
+            spent[count].append(seconds(program, before, changes))
+    for count, times in spent.items():
+        print(f"{count} visits of {DOCUMENTS} documents: {min(times) / UPDATES * 1e6:.1f} us an update of one")
 
 
 def main():
     program = sys.argv[1]
-    for count in (2_000, 200_000):
-        updates(program, count)
+    updates(program, (2_000, 200_000))
     chance = random.Random(1)
     before = line(op="schema", schema=SCHEMA) + load("movies", movies())
     # in loads of which each has the same room, so that the room itself is not counted
