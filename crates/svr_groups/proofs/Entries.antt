@@ -2,8 +2,9 @@
 use Rattle.std.proofs.Common.{◌≡◌, ℕ, ◌<◌, ℤ, Bool, true, false, List, [], ◌∷◌, length, Result, Ok, Err, OnOk, OnErr}
 use Rattle.std.proofs.Common.{refl, sym, ap, subst, arith}
 use Rattle.std.specs.List.{IsAmong}
-use Rattle.std.specs.Map.{remove_entry, set_value, values_of}
-use Rattle.std.proofs.lemmas.Map.Views.{All-map-remove_entry, All-values-set_value}
+use Rattle.std.proofs.Common.{IfSome, Some}
+use Rattle.std.specs.Map.{lookup, remove_entry, set_value, values_of}
+use Rattle.std.proofs.lemmas.Map.Views.{All-map-remove_entry, All-values-set_value, IfSome-lookup_from_All}
 use Rattle.svr_groups.specs.Values.{with_value}
 use Rattle.svr_groups.specs.Layout.{HasValues}
 use Rattle.svr_groups.proofs.Ascending.{length-with_value}
@@ -40,3 +41,21 @@ some-added (Err x) v old new ok err some = let e = ap length err in omega arith
 pub some-left : (values : List ℤ) → (values ≡ [] → ⊥) → 0 < length values
 some-left [] apart = absurd (apart refl)
 some-left (x ∷ xs) apart = omega arith
+
+-- what a look-up finds isn't empty
+pub some-found : (test : ℕ → Bool) (es : List (ℕ × List ℤ)) (values : List ℤ) → HasValues es → Some values ≡ lookup test es
+    → 0 < length values
+some-found test es values all found =
+    subst (λ o. IfSome o (λ vs. 0 < length vs)) (sym found) (IfSome-lookup_from_All (λ vs. 0 < length vs) test es all)
+
+module _ {K X : Type 0} (test : K → Bool) where
+  again_at : (k : K) (x v w : X) (es : List (K × X)) (b : Bool) → test k ≡ b
+      → set_value test (set_value test es v) w ≡ set_value test es w
+      → set_value test (set_value test ((k, x) ∷ es) v) w ≡ set_value test ((k, x) ∷ es) w
+  again_at k x v w es true h same = rw (h, h) refl
+  again_at k x v w es false h same = rw (h, h) (ap (λ rest. (k, x) ∷ rest) same)
+
+  -- a value that is put where another was put takes its place
+  pub set_value-again : (es : List (K × X)) (v w : X) → set_value test (set_value test es v) w ≡ set_value test es w
+  set_value-again [] v w = refl
+  set_value-again ((k, x) ∷ es) v w = again_at k x v w es (test k) refl (set_value-again es v w)

@@ -72,6 +72,10 @@ LacksOne-without_value v (x ∷ xs) there =
 
 -- ---- groups
 
+pub IsGroup-none : IsGroup (pos 0) []
+unfolding ascending_values sum_of
+IsGroup-none = record { ordered = refl; fit = λ k d h. absurd (omega (arith, h)); few = omega arith; summed = refl }
+
 pub IsGroup-one : (v : ℤ) → FitsSigned w64 v → IsGroup v (v ∷ [])
 unfolding ascending_values with_value sum_of
 IsGroup-one v fits = record {

@@ -7,15 +7,16 @@ ghost use Rattle.svr_groups.specs.Layout.{SetsValuesOf};
 
 use crate::group::Group;
 use std::alloc::Global;
-use std::collections::BTreeMap;
 use std::marker::Model;
 use svr_edge::Memory;
+use svr_idmap::IdMap;
 use svr_num::{Aggregate, DocId};
 
 /// For each id that has a value its values. Contracts see the ids with their values, in ascending order of id.
 #[derive(Drop)]
 pub struct ById {
-    groups: BTreeMap<DocId, Group>,
+    alloc: Global,
+    groups: IdMap<Group>,
 }
 
 impl Model for ById {
@@ -24,9 +25,9 @@ impl Model for ById {
 
     ghost Value = { List (ℕ × List ℤ) };
 
-    ghost view = { λ b. b.groups.entries };
+    ghost view = { λ b. b.groups };
 
-    ghost invariant = { λ b. HasValues b.groups.entries };
+    ghost invariant = { λ b. HasValues b.groups };
 }
 
 impl ById {
@@ -35,29 +36,33 @@ impl ById {
         ensures { result ≡ [] }
     {
         ById {
-            groups: BTreeMap::new(alloc),
+            alloc,
+            groups: IdMap::new(alloc),
         }
     }
 
     /// Adds a value to those of an id.
-    pub fn add(&mut self, alloc: Global, id: DocId, value: i64) -> Result<(), Memory>
+    pub fn add(&mut self, id: DocId, value: i64) -> Result<(), Memory>
         requires { length (values_of_id self.old id) ≤ 2 ^ 18 }
         ensures ok { OnOk result (SetsValuesOf self.old self.new id (with_value value (values_of_id self.old id))) }
         ensures err { OnErr result (self.new ≡ self.old) }
     {
-        match self.groups.get_mut(&id) {
-            Some(group) => group.add(value),
-            None => self.begin(alloc, id, value),
+        if self.groups.get(id).is_none() {
+            return self.begin(id, value);
         }
+        let mut group = self.groups.replace(id, Group::empty(self.alloc));
+        let added = group.add(value);
+        self.groups.replace(id, group);
+        added
     }
 
     /// Adds the first value of an id.
-    fn begin(&mut self, alloc: Global, id: DocId, value: i64) -> Result<(), Memory>
+    fn begin(&mut self, id: DocId, value: i64) -> Result<(), Memory>
         requires { values_of_id self.old id ≡ [] }
         ensures ok { OnOk result (SetsValuesOf self.old self.new id (with_value value [])) }
         ensures err { OnErr result (self.new ≡ self.old) }
     {
-        let group = Group::of(alloc, value)?;
+        let group = Group::of(self.alloc, value)?;
         self.groups.insert(id, group)?;
         Ok(())
     }
@@ -67,12 +72,12 @@ impl ById {
         requires { Contains (values_of_id self.old id) value }
         ensures { SetsValuesOf self.old self.new id (without_value value (values_of_id self.old id)) }
     {
-        let Some(group) = self.groups.get_mut(&id) else {
-            return;
-        };
+        let mut group = self.groups.replace(id, Group::empty(self.alloc));
         group.remove(value);
         if group.is_empty() {
-            self.groups.remove(&id);
+            self.groups.remove(id);
+        } else {
+            self.groups.replace(id, group);
         }
     }
 
@@ -81,7 +86,7 @@ impl ById {
         ensures value { result ≡ aggregate_of how empty (values_of_id self.now id) }
         ensures within { IsValue result }
     {
-        match self.groups.get(&id) {
+        match self.groups.get(id) {
             Some(group) => group.value(how, empty),
             None => none_value(how, empty),
         }

@@ -40,6 +40,16 @@ impl Group {
         })
     }
 
+    /// A group of no values. It takes no memory.
+    pub fn empty(alloc: Global) -> Group
+        ensures { result ≡ [] }
+    {
+        Group {
+            values: Vec::new(alloc),
+            sum: 0,
+        }
+    }
+
     /// Whether no value is left.
     pub fn is_empty(&self) -> bool
         ensures { IsTrue result ↔ (self.now ≡ []) }

@@ -38,13 +38,13 @@ impl Groups {
     }
 
     /// Adds a value to those of a component for an id.
-    pub fn add(&mut self, alloc: Global, c: u8, id: DocId, value: i64) -> Result<(), Memory>
+    pub fn add(&mut self, c: u8, id: DocId, value: i64) -> Result<(), Memory>
         requires component { c < length self.old }
         requires few { length (values_at self.old c id) ≤ 2 ^ 18 }
         ensures ok { OnOk result (SetsValues self.old self.new c id (with_value value (values_at self.old c id))) }
         ensures err { OnErr result (self.new ≡ self.old) }
     {
-        self.components[c as usize].add(alloc, id, value)
+        self.components[c as usize].add(id, value)
     }
 
     /// Takes one of the equal values of a component for an id out.

@@ -1,14 +1,16 @@
 -- Entries of lower ids in front of those of higher ones.
+use Rattle.std.proofs.Common.{IsSome}
 use Rattle.std.proofs.Common.{Option}
 use Rattle.std.proofs.Common.{◌≡◌, ◌<◌, ◌≤◌, ◌==◌, ◌^◌, ℕ, Bool, true, false, cond, if◌then◌else◌, None, List, [], ◌∷◌, ◌++◌, nat_cmp}
 use Rattle.std.proofs.Common.{refl, sym, ap, ◌∙◌, subst, arith, inl, inr}
 use Rattle.std.specs.BTreeMap.{insert_entry, is_at}
 use Rattle.std.specs.List.{AllByRecursion}
-use Rattle.std.specs.Map.{remove_entry}
+use Rattle.std.specs.Map.{remove_entry, set_value}
 use Rattle.std.specs.Option.{option_or}
 use Rattle.std.proofs.lemmas.Bool.{cases_order}
 use Rattle.svr_idmap.specs.Ids.{SetsValue, value_at}
 use Rattle.svr_idmap.specs.Layout.{AreParted}
+use Rattle.svr_idmap.proofs.Tests.{set-append_high, set-append_low}
 use Rattle.svr_idmap.proofs.Tests.{insert-append_high, insert-append_low, insert-greater, insert-less, insert-same, or_none, others-above}
 use Rattle.svr_idmap.proofs.Tests.{others-below, remove-append_high, remove-append_low, same_id, value_at-append, value_at-none}
 
@@ -35,6 +37,18 @@ module _ {V : Type 0} where
     all-removed [] all = tt
     all-removed (e ∷ es) all =
         removed_step (is_at (nat_cmp id) e.0) e es (remove_entry (is_at (nat_cmp id)) es) all.0 all.1 (all-removed es all.1)
+
+  replaced_step : (P : ℕ → Type 0) (b : Bool) (e : ℕ × V) (es rest : List (ℕ × V)) (value : V) → P e.0 → AllByRecursion (λ x. P x.0) es
+      → AllByRecursion (λ x. P x.0) rest → AllByRecursion (λ x. P x.0) (cond b ((e.0, value) ∷ es) (e ∷ rest))
+  replaced_step P true e es rest value p all h = (p, all)
+  replaced_step P false e es rest value p all h = (p, h)
+
+  all-replaced : (P : ℕ → Type 0) (id : ℕ) (value : V) (es : List (ℕ × V)) → AllByRecursion (λ e. P e.0) es
+      → AllByRecursion (λ e. P e.0) (set_value (is_at (nat_cmp id)) es value)
+  all-replaced P id value [] all = tt
+  all-replaced P id value (e ∷ es) all =
+      replaced_step P (is_at (nat_cmp id) e.0) e es (set_value (is_at (nat_cmp id)) es value) value all.0 all.1
+      (all-replaced P id value es all.1)
 
   all-above : (id : ℕ) (es : List (ℕ × V)) → id < 2 ^ 18 → AllByRecursion (λ e. 2 ^ 18 ≤ e.0) es → AllByRecursion (λ e. id < e.0) es
   all-above id [] low all = tt
@@ -66,6 +80,16 @@ module _ {V : Type 0} where
       pub inserted-low : (value : V) → insert_entry nat_cmp dense id value ++ sparse ≡ insert_entry nat_cmp (dense ++ sparse) id value
       inserted-low value = sym (insert-append_low id value dense sparse (all-above id sparse low h.above))
 
+      pub some-low : IsSome (value_at (dense ++ sparse) id) → IsSome (value_at dense id)
+      some-low some = subst IsSome (sym value-low) some
+
+      pub replaced-low : (value : V) → IsSome (value_at (dense ++ sparse) id)
+          → set_value (is_at (nat_cmp id)) dense value ++ sparse ≡ set_value (is_at (nat_cmp id)) (dense ++ sparse) value
+      replaced-low value some = sym (set-append_low id value dense sparse (some-low some))
+
+      pub parted-replaced_low : (value : V) → AreParted (set_value (is_at (nat_cmp id)) dense value) sparse
+      parted-replaced_low value = record { below = all-replaced (λ k. k < 2 ^ 18) id value dense h.below; above = h.above }
+
       pub removed-low : remove_entry (is_at (nat_cmp id)) dense ++ sparse ≡ remove_entry (is_at (nat_cmp id)) (dense ++ sparse)
       removed-low = sym (remove-append_low id dense sparse (others-above id sparse (all-above id sparse low h.above)))
 
@@ -91,6 +115,13 @@ module _ {V : Type 0} where
 
       pub inserted-high : (value : V) → dense ++ insert_entry nat_cmp sparse id value ≡ insert_entry nat_cmp (dense ++ sparse) id value
       inserted-high value = sym (insert-append_high id value dense sparse (all-below id dense high h.below))
+
+      pub replaced-high : (value : V)
+          → dense ++ set_value (is_at (nat_cmp id)) sparse value ≡ set_value (is_at (nat_cmp id)) (dense ++ sparse) value
+      replaced-high value = sym (set-append_high id value dense sparse (others-below id dense (all-below id dense high h.below)))
+
+      pub parted-replaced_high : (value : V) → AreParted dense (set_value (is_at (nat_cmp id)) sparse value)
+      parted-replaced_high value = record { below = h.below; above = all-replaced (λ k. 2 ^ 18 ≤ k) id value sparse h.above }
 
       pub removed-high : dense ++ remove_entry (is_at (nat_cmp id)) sparse ≡ remove_entry (is_at (nat_cmp id)) (dense ++ sparse)
       removed-high = sym (remove-append_high id dense sparse (others-below id dense (all-below id dense high h.below)))

@@ -1,16 +1,18 @@
 -- The entries of values that stand at the places of their ids.
+use Rattle.std.proofs.lemmas.Bool.{false≢true}
+use Rattle.std.proofs.Common.{IsSome}
 use Rattle.std.proofs.Common.{subst}
 use Rattle.std.proofs.Common.{◌≡◌, ◌≢◌, ◌<◌, ◌≤◌, ◌==◌, ◌^◌, ◌-◌, Bool, true, false, if◌then◌else◌, ℕ, zero, suc, ◌+◌, cond, List, [], ◌∷◌, ◌++◌, length, set, nat_cmp}
 use Rattle.std.proofs.Common.{Option, Some, None, slice_get, get_or, unwrap_or, refl, sym, ap, ◌∙◌, arith}
 use Rattle.std.specs.BTreeMap.{insert_entry, is_at}
 use Rattle.std.specs.List.{AllByRecursion}
-use Rattle.std.specs.Map.{remove_entry}
+use Rattle.std.specs.Map.{remove_entry, set_value}
 use Rattle.std.proofs.lemmas.Bool.Decides.{nat_tests}
 use Rattle.std.proofs.lemmas.List.{length-set}
 use Rattle.std.proofs.lemmas.Option.{slice_get_read}
 use Rattle.svr_idmap.specs.Ids.{SetsValue, value_at}
 use Rattle.svr_idmap.specs.Layout.{IsDense, KeepsEntries, count_of, entries_from}
-use Rattle.svr_idmap.proofs.Tests.{at_same, insert-front, insert-greater, insert-same, others-above, others-below, remove-none, remove-step, same_id}
+use Rattle.svr_idmap.proofs.Tests.{at_same, insert-front, insert-greater, insert-same, others-above, others-below, remove-none, remove-step, same_id, set-step}
 use Rattle.svr_idmap.proofs.Tests.{value_at-none, value_at-step}
 
 next_place : (n i : ℕ) → n + suc i ≡ n + 1 + i
@@ -111,6 +113,30 @@ module _ {V : Type 0} where
       (ap (λ id. remove_entry (is_at (nat_cmp id)) (entries_from (n + 1) values)) (next_place n i)
       ∙ remove-place (n + 1) i values (omega (arith, h)))
 
+  -- ---- and takes the place of another
+
+  pub set-place : (n i : ℕ) (values : List (Option V)) (value : V) → IsSome (at_place values i)
+      → set_value (is_at (nat_cmp (n + i))) (entries_from n values) value ≡ entries_from n (set values i (Some value))
+  unfolding entries_from
+  set-place n i [] value some = absurd (false≢true some)
+  set-place n zero (None ∷ values) value some = absurd (false≢true some)
+  set-place n zero (Some old ∷ values) value some =
+      ap (λ b. cond b ((n, value) ∷ entries_from (n + 1) values) ((n, old) ∷ set_value (is_at (nat_cmp (n + 0))) (entries_from (n + 1) values) value))
+      (at_same (n + 0) n (first_place n))
+  set-place n (suc i) (None ∷ values) value some =
+      ap (λ id. set_value (is_at (nat_cmp id)) (entries_from (n + 1) values) value) (next_place n i)
+      ∙ set-place (n + 1) i values value some
+  set-place n (suc i) (Some old ∷ values) value some =
+      set-step (n + suc i) value (n, old) (entries_from (n + 1) values) (later_place n i)
+      ∙ ap (λ es. (n, old) ∷ es)
+      (ap (λ id. set_value (is_at (nat_cmp id)) (entries_from (n + 1) values) value) (next_place n i)
+      ∙ set-place (n + 1) i values value some)
+
+  pub within-some : (values : List (Option V)) (i : ℕ) → IsSome (at_place values i) → i < length values
+  within-some [] i some = absurd (false≢true some)
+  within-some (x ∷ values) zero some = omega arith
+  within-some (x ∷ values) (suc i) some = let h = within-some values i some in omega (arith, h)
+
   pub remove-beyond : (i : ℕ) (values : List (Option V)) → length values ≤ i
       → remove_entry (is_at (nat_cmp i)) (entries_from 0 values) ≡ entries_from 0 values
   remove-beyond i values h =
@@ -175,6 +201,10 @@ module _ {V : Type 0} where
   count_of-few None = omega arith
   count_of-few (Some value) = omega arith
 
+  count-some : (o : Option V) → IsSome o → count_of o ≡ 1
+  count-some None some = absurd (false≢true some)
+  count-some (Some value) some = refl
+
   module _ (values : List (Option V)) (count : ℕ) (now : List (ℕ × V)) (h : IsDense values count) (is : entries_from 0 values ≡ now) where
     pub count-few : count ≤ 2 ^ 18
     count-few = let few = h.few in let counted = h.counted in omega (arith, few, counted, length-entries 0 values)
@@ -188,6 +218,19 @@ module _ {V : Type 0} where
     pub remove-none_there : (i : ℕ) → length values ≤ i → now ≡ remove_entry (is_at (nat_cmp i)) now
     remove-none_there i beyond =
         sym (ap (remove_entry (is_at (nat_cmp i))) (sym is) ∙ remove-beyond i values beyond ∙ is)
+
+    pub some-there : (i : ℕ) → IsSome (value_at now i) → IsSome (at_place values i)
+    some-there i some = subst IsSome (value-now i) some
+
+    pub within-there : (i : ℕ) → IsSome (value_at now i) → i < length values
+    within-there i some = within-some values i (some-there i some)
+
+    pub replaced-now : (i : ℕ) (value : V) → IsSome (value_at now i)
+        → entries_from 0 (set values i (Some value)) ≡ set_value (is_at (nat_cmp i)) now value
+    replaced-now i value some = let zero_more : i ≡ 0 + i = omega arith in
+        sym (ap (λ es. set_value (is_at (nat_cmp i)) es value) (sym is)
+        ∙ ap (λ id. set_value (is_at (nat_cmp id)) (entries_from 0 values) value) zero_more
+        ∙ set-place 0 i values value (some-there i some))
 
     pub SetsValue-none_there : (i : ℕ) → length values ≤ i → SetsValue now now i None
     SetsValue-none_there i beyond k = stays (i == k) (value_at now k)
@@ -231,3 +274,11 @@ module _ {V : Type 0} where
       inserted-now value = let zero_more : i ≡ 0 + i = omega arith in
           sym (ap (λ es. insert_entry nat_cmp es i value) (sym is)
           ∙ ap (λ id. insert_entry nat_cmp (entries_from 0 values) id value) zero_more ∙ insert-place 0 i values value within)
+
+      -- where there is one, as many stay
+      pub IsDense-replaced : (value : V) → IsSome (value_at now i) → IsDense (set values i (Some value)) count
+      IsDense-replaced value some = record {
+        few = let few = h.few in omega (arith, few, length-set values i (Some value));
+        counted = let counted = h.counted in let e = counts (Some value) in
+            let one = count-some x (subst IsSome (sym value-read) some) in omega (arith, counted, e, one);
+      }

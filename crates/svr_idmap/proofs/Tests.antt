@@ -1,11 +1,14 @@
 -- Tests of ids, and entries whose ids are all lower or higher.
+use Rattle.std.proofs.lemmas.Bool.{false≢true}
+use Rattle.std.proofs.Common.{subst}
+use Rattle.std.proofs.Common.{IsSome}
 use Rattle.std.proofs.Common.{◌==◌, if◌then◌else◌}
 use Rattle.std.proofs.Common.{◌≡◌, ◌≢◌, ◌<◌, ℕ, ◌++◌, Bool, true, false, cond, List, [], ◌∷◌, nat_cmp, Option, Some, None}
 use Rattle.std.proofs.Common.{refl, sym, ap, ◌∙◌, arith, inl, inr}
 use Rattle.std.specs.BTreeMap.{insert_entry, is_at}
 use Rattle.std.specs.Cmp.{nat_cmp_is}
 use Rattle.std.specs.List.{AllByRecursion}
-use Rattle.std.specs.Map.{remove_entry}
+use Rattle.std.specs.Map.{set_value, remove_entry}
 use Rattle.std.specs.Option.{option_or}
 use Rattle.std.specs.Ordering.{is_eq, match_ordering}
 use Rattle.std.specs.declared.cmp.Ordering.{Ordering}
@@ -29,6 +32,15 @@ at_other a b apart = elim (cases_order a b) [
 pub same_id : (a b : ℕ) → (a == b) ≡ true → a ≡ b
 same_id a b e = grind (arith, nat_tests, e)
 
+other_number : (a b : ℕ) → a ≢ b → (a == b) ≡ false
+other_number a b apart = elim (cases_order a b) [
+  | inl e ↦ absurd (apart e)
+  | inr o ↦ elim o [
+    | inl l ↦ (let h = l in grind (arith, nat_tests, h))
+    | inr g ↦ (let h = g in grind (arith, nat_tests, h))
+  ]
+]
+
 -- the test of a look-up is that of numbers, the other way around
 at_number : (k id : ℕ) → is_at (nat_cmp k) id ≡ (id == k)
 at_number k id = elim (cases_order k id) [
@@ -41,6 +53,10 @@ at_number k id = elim (cases_order k id) [
 
 apart_later : (k id key : ℕ) → key < id → is_at (nat_cmp k) key ≡ true → (id == k) ≡ false
 apart_later k id key less e = let h = sym (at_number k key) ∙ e in grind (arith, nat_tests, less, h)
+
+apart_later-other : (k id key : ℕ) → id ≢ key → is_at (nat_cmp k) key ≡ true → (id == k) ≡ false
+apart_later-other k id key apart e =
+    let same : key ≡ k = same_id key k (sym (at_number k key) ∙ e) in other_number id k (λ h. apart (h ∙ sym same))
 
 module _ {V : Type 0} where
   abbrev put_by : Ordering → ℕ → V → ℕ × V → List (ℕ × V) → List (ℕ × V) → List (ℕ × V)
@@ -71,6 +87,11 @@ module _ {V : Type 0} where
   pub remove-step : (id : ℕ) (e : ℕ × V) (es : List (ℕ × V)) → id ≢ e.0
       → remove_entry (is_at (nat_cmp id)) (e ∷ es) ≡ e ∷ remove_entry (is_at (nat_cmp id)) es
   remove-step id e es apart = ap (λ b. cond b es (e ∷ remove_entry (is_at (nat_cmp id)) es)) (at_other id e.0 apart)
+
+  pub set-step : (id : ℕ) (value : V) (e : ℕ × V) (es : List (ℕ × V)) → id ≢ e.0
+      → set_value (is_at (nat_cmp id)) (e ∷ es) value ≡ e ∷ set_value (is_at (nat_cmp id)) es value
+  set-step id value e es apart =
+      ap (λ b. cond b ((e.0, value) ∷ es) (e ∷ set_value (is_at (nat_cmp id)) es value)) (at_other id e.0 apart)
 
   pub value_at-none : (id : ℕ) (es : List (ℕ × V)) → AllByRecursion (λ e. id ≢ e.0) es → value_at es id ≡ None
   value_at-none id [] all = refl
@@ -136,6 +157,29 @@ module _ {V : Type 0} where
       low_step (is_at (nat_cmp id) x.0) x xs ys (remove_entry (is_at (nat_cmp id)) xs) (remove_entry (is_at (nat_cmp id)) (xs ++ ys))
       (remove-append_low id xs ys all)
 
+  set_low_step : (b : Bool) (x : ℕ × V) (xs ys after rest : List (ℕ × V)) (value : V) → (b ≡ false → rest ≡ after ++ ys)
+      → cond b ((x.0, value) ∷ (xs ++ ys)) (x ∷ rest) ≡ cond b ((x.0, value) ∷ xs) (x ∷ after) ++ ys
+  set_low_step true x xs ys after rest value h = refl
+  set_low_step false x xs ys after rest value h = ap (λ es. x ∷ es) (h refl)
+
+  some_later : (b : Bool) (value : V) (rest : Option V) → IsSome (cond b (Some value) rest) → b ≡ false → IsSome rest
+  some_later true value rest some e = absurd (grind (arith, e))
+  some_later false value rest some e = some
+
+  pub set-append_low : (id : ℕ) (value : V) (xs ys : List (ℕ × V)) → IsSome (value_at xs id)
+      → set_value (is_at (nat_cmp id)) (xs ++ ys) value ≡ set_value (is_at (nat_cmp id)) xs value ++ ys
+  set-append_low id value [] ys some = absurd (false≢true some)
+  set-append_low id value (x ∷ xs) ys some =
+      set_low_step (is_at (nat_cmp id) x.0) x xs ys (set_value (is_at (nat_cmp id)) xs value)
+      (set_value (is_at (nat_cmp id)) (xs ++ ys) value) value
+      (λ e. set-append_low id value xs ys (some_later (is_at (nat_cmp id) x.0) x.1 (value_at xs id) some e))
+
+  pub set-append_high : (id : ℕ) (value : V) (xs ys : List (ℕ × V)) → AllByRecursion (λ e. id ≢ e.0) xs
+      → set_value (is_at (nat_cmp id)) (xs ++ ys) value ≡ xs ++ set_value (is_at (nat_cmp id)) ys value
+  set-append_high id value [] ys all = refl
+  set-append_high id value (x ∷ xs) ys all =
+      set-step id value x (xs ++ ys) all.0 ∙ ap (λ es. x ∷ es) (set-append_high id value xs ys all.1)
+
   pub remove-append_high : (id : ℕ) (xs ys : List (ℕ × V)) → AllByRecursion (λ e. id ≢ e.0) xs
       → remove_entry (is_at (nat_cmp id)) (xs ++ ys) ≡ xs ++ remove_entry (is_at (nat_cmp id)) ys
   remove-append_high id [] ys all = refl
@@ -176,4 +220,35 @@ module _ {V : Type 0} where
           ∙ sets_later (is_at (nat_cmp k) e.0) (id == k) value e.1 (value_at (insert_entry nat_cmp es id value) k) (value_at es k)
           (apart_later k id e.0 more) (SetsValue-insert id value es k)
     ]
+  ]
+
+  sets_apart : (id k : ℕ) (value : V) (e : ℕ × V) (es after : List (ℕ × V)) → id ≢ e.0
+      → value_at after k ≡ (if id == k then Some value else value_at es k)
+      → value_at (e ∷ after) k ≡ (if id == k then Some value else value_at (e ∷ es) k)
+  sets_apart id k value e es after apart h =
+      sets_later (is_at (nat_cmp k) e.0) (id == k) value e.1 (value_at after k) (value_at es k) (apart_later-other k id e.0 apart) h
+
+  some_after : (id : ℕ) (e : ℕ × V) (es : List (ℕ × V)) → id ≢ e.0 → IsSome (value_at (e ∷ es) id) → IsSome (value_at es id)
+  some_after id e es apart some = subst IsSome (value_at-step id e es apart) some
+
+  set-same : (id : ℕ) (value : V) (e : ℕ × V) (es : List (ℕ × V)) → id ≡ e.0
+      → set_value (is_at (nat_cmp id)) (e ∷ es) value ≡ (e.0, value) ∷ es
+  set-same id value e es same =
+      ap (λ b. cond b ((e.0, value) ∷ es) (e ∷ set_value (is_at (nat_cmp id)) es value)) (at_same id e.0 same)
+
+  pub SetsValue-set : (id : ℕ) (value : V) (es : List (ℕ × V)) → IsSome (value_at es id)
+      → SetsValue es (set_value (is_at (nat_cmp id)) es value) id (Some value)
+  SetsValue-set id value [] some k = absurd (false≢true some)
+  SetsValue-set id value (e ∷ es) some k = elim (cases_order id e.0) [
+    | inl same ↦ ap (λ values. value_at values k) (set-same id value e es same)
+        ∙ sets_there (is_at (nat_cmp k) e.0) (id == k) value e.1 (value_at es k)
+        (at_number k e.0 ∙ ap (λ n. n == k) (sym same))
+    | inr o ↦
+        let apart : id ≢ e.0 = elim o [
+          | inl l ↦ (λ same. omega (arith, l, same))
+          | inr g ↦ (λ same. omega (arith, g, same))
+        ] in
+        ap (λ values. value_at values k) (set-step id value e es apart)
+        ∙ sets_apart id k value e es (set_value (is_at (nat_cmp id)) es value) apart
+        (SetsValue-set id value es (some_after id e es apart some) k)
   ]

@@ -1,7 +1,7 @@
 //! Values at the places of their ids.
-ghost use Rattle.std.specs.Prelude.{◌≡◌, ◌<◌, ◌≤◌, ◌^◌, [], IfOk, OnOk, OnErr, None, length, option_copied, vec_len};
+ghost use Rattle.std.specs.Prelude.{◌≡◌, ◌<◌, ◌≤◌, ◌^◌, [], IfOk, OnOk, OnErr, IsSome, None, Some, length, option_copied, vec_len};
 ghost use Rattle.std.specs.BTreeMap.{insert_entry, is_at};
-ghost use Rattle.std.specs.Map.{remove_entry};
+ghost use Rattle.std.specs.Map.{remove_entry, set_value};
 ghost use Rattle.std.specs.Ordering.{nat_cmp};
 ghost use Rattle.svr_idmap.specs.Ids.{SetsValue, value_at};
 ghost use Rattle.svr_idmap.specs.Layout.{KeepsEntries, count_of};
@@ -98,6 +98,15 @@ impl<V: Drop> Dense<V> {
         let before = mem::replace(&mut self.values[id], Some(value));
         self.count = self.count + 1 - count_of(&before);
         Ok(before)
+    }
+
+    /// Puts a value in the place of the one that an id has, and answers that. It takes no memory.
+    pub fn replace(&mut self, id: usize, value: V) -> V
+        requires { IsSome (value_at self.old id) }
+        ensures changed { self.new ≡ set_value (is_at (nat_cmp id)) self.old value }
+        ensures before { Some result ≡ value_at self.old id }
+    {
+        mem::replace(&mut self.values[id], Some(value)).unwrap()
     }
 
     /// Takes the value of an id out, and answers it, if it had one.

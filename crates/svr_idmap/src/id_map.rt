@@ -1,6 +1,6 @@
-ghost use Rattle.std.specs.Prelude.{◌≡◌, [], IfOk, OnOk, OnErr, Some, None, length, option_copied};
+ghost use Rattle.std.specs.Prelude.{◌≡◌, [], IfOk, OnOk, OnErr, IsSome, Some, None, length, option_copied};
 ghost use Rattle.std.specs.BTreeMap.{insert_entry, is_at};
-ghost use Rattle.std.specs.Map.{remove_entry};
+ghost use Rattle.std.specs.Map.{remove_entry, set_value};
 ghost use Rattle.std.specs.Ordering.{nat_cmp};
 ghost use Rattle.svr_idmap.specs.Ids.{SetsValue, value_at};
 
@@ -8,6 +8,7 @@ use crate::dense::Dense;
 use std::alloc::Global;
 use std::collections::BTreeMap;
 use std::marker::Model;
+use std::mem;
 use svr_edge::Memory;
 use svr_num::DocId;
 
@@ -35,6 +36,18 @@ impl<V> Model for IdMap<V> {
     ghost view = { λ m. m.dense ++ m.sparse.entries };
 
     ghost invariant = { λ m. AreParted m.dense m.sparse.entries };
+}
+
+/// Puts a value in the place of the one at an id, and answers that.
+fn replace_in<V: Drop>(values: &mut BTreeMap<DocId, V>, id: DocId, value: V) -> V
+    requires { IsSome (value_at values.old.entries id) }
+    ensures changed { values.new.entries ≡ set_value (is_at (nat_cmp id)) values.old.entries value }
+    ensures before { Some result ≡ value_at values.old.entries id }
+{
+    match values.get_mut(&id) {
+        Some(slot) => mem::replace(slot, value),
+        None => value,
+    }
 }
 
 impl<V: Drop> IdMap<V> {
@@ -79,6 +92,19 @@ impl<V: Drop> IdMap<V> {
         }
         let before = self.sparse.insert(id, value)?;
         Ok(before)
+    }
+
+    /// Puts a value in the place of the one that an id has, and answers that. It takes no memory.
+    pub fn replace(&mut self, id: DocId, value: V) -> V
+        requires { IsSome (value_at self.old id) }
+        ensures changed { self.new ≡ set_value (is_at (nat_cmp id)) self.old value }
+        ensures sets { SetsValue self.old self.new id (Some value) }
+        ensures before { Some result ≡ value_at self.old id }
+    {
+        if id < DENSE_IDS {
+            return self.dense.replace(id as usize, value);
+        }
+        replace_in(&mut self.sparse, id, value)
     }
 
     /// Takes the value of an id out, and answers it, if it had one.

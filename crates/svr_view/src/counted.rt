@@ -79,18 +79,13 @@ fn counted_of(component: &Component, table: u8, row: Option<&Row>) -> Option<Cou
 }
 
 /// Adds what a row counts to the values of a component.
-fn count_in(
-    groups: &mut Groups,
-    alloc: Global,
-    c: u8,
-    counted: Option<Counted>,
-) -> Result<(), Memory>
+fn count_in(groups: &mut Groups, c: u8, counted: Option<Counted>) -> Result<(), Memory>
     requires component { c < length groups.old }
     requires few { (id : ℕ) → length (values_at groups.old c id) ≤ 2 ^ 18 }
     ensures { OnOk result (SetsComponent groups.old groups.new c (λ id. with_values (values_for counted id) (values_at groups.old c id))) }
 {
     match counted {
-        Some(Counted { id, value }) => groups.add(alloc, c, id, value),
+        Some(Counted { id, value }) => groups.add(c, id, value),
         None => Ok(()),
     }
 }
@@ -111,7 +106,6 @@ fn count_out(groups: &mut Groups, c: u8, counted: Option<Counted>)
 /// there is room for one more than a table has rows.
 fn recount_one(
     groups: &mut Groups,
-    alloc: Global,
     c: u8,
     old: Option<Counted>,
     new: Option<Counted>,
@@ -122,7 +116,7 @@ fn recount_one(
     ensures { OnOk result (SetsComponent groups.old groups.new c
         (λ id. without_values (values_for old id) (with_values (values_for new id) (values_at groups.old c id)))) }
 {
-    count_in(groups, alloc, c, new)?;
+    count_in(groups, c, new)?;
     count_out(groups, c, old);
     Ok(())
 }
@@ -130,7 +124,6 @@ fn recount_one(
 /// Puts what one row of a table counts in the place of what another counted, in all components.
 pub(crate) fn recount(
     groups: &mut Groups,
-    alloc: Global,
     components: &[Component],
     table: u8,
     old: Option<&Row>,
@@ -146,7 +139,7 @@ pub(crate) fn recount(
     for (c, component) in components.iter().enumerate() {
         let before = counted_of(component, table, old);
         let after = counted_of(component, table, new);
-        recount_one(groups, alloc, c as u8, before, after)?;
+        recount_one(groups, c as u8, before, after)?;
     }
     Ok(())
 }

@@ -120,7 +120,7 @@ impl ScoreView {
             (λ id. option_map (score_by schema.now self.new.groups) (row_at (rows_in tables.now schema.now.text_table) id))) }
     {
         let components = schema.components.as_slice();
-        recount(&mut self.groups, alloc, components, table, old, new)?;
+        recount(&mut self.groups, components, table, old, new)?;
         let ids = counted_ids(alloc, components, table, old, new)?;
         let moves = settle_all(alloc, &mut self.scores, schema, &self.groups, tables, &ids)?;
         Ok(Items::from_vec(moves))

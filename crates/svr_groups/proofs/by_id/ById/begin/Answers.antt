@@ -9,8 +9,8 @@ pub invariant_of-self-2 : goal.invariant_of-self-2
 invariant_of-self-2 c =
     let one : c.in_ok-group.group ≡ c.args.value ∷ [] = search rules in
     let some : 0 < length c.in_ok-group.group = omega (arith, ap length one) in
-    subst HasValues (sym c.in_ok-insert.ensures.entries)
-    (All-values-insert_entry nat_cmp c.args.id c.in_ok-group.group (λ (values : List ℤ). 0 < length values) c.self.inside.groups.entries
+    subst HasValues (sym c.in_ok-insert.ensures.changed)
+    (All-values-insert_entry nat_cmp c.args.id c.in_ok-group.group (λ (values : List ℤ). 0 < length values) c.self.inside.groups
     c.self.invariant some)
 
 pub returns-clause-ok : goal.returns-clause-ok
