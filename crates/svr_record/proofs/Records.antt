@@ -120,7 +120,7 @@ begins (cell.Int (negsuc n) ∷ cells) e = absurd cc
 begins (cell.Text text ∷ cells) e = absurd cc
 
 begins_again : (row : Row) → HasId row → begins_with_id row.cells ≡ true
-begins_again row has = ap begins_with_id has.2.2
+begins_again row has = ap begins_with_id has.2
 
 ended : (bytes : List ℕ) → is_end bytes ≡ true → bytes ≡ []
 ended bytes e = nil_from_length bytes (eqb-true _ _ e)
@@ -171,7 +171,8 @@ id_again id lt =
     let wide : id < 2 ^ 64 = omega (arith, lt) in
     let number : number_at w64 (to_be_bytes w64 id) ≡ Some (id, []) =
     ap (number_at w64) (sym (append-nil (to_be_bytes w64 id))) ∙ number_again w64 (2 ^ 64) wide64 id [] wide in
-    rw (number, lt-ltb _ _ lt) refl
+    let low : ltb id (2 ^ 63) ≡ true = lt-ltb id (2 ^ 63) lt in
+    ap (λ (r : Option (ℕ × List ℕ)). r >>= λ x. cond (is_end x.1 && ltb x.0 (2 ^ 63)) (Some x.0) None) number ∙ ap (λ b. cond b (Some id) None) low
 
 insert_takes : (table : ℕ) (bytes : List ℕ) (made : Change) → IsBytes bytes → insert_in table bytes ≡ Some made
     → (1 ∷ table ∷ bytes ≡ change_body made) × IsChange made
