@@ -1,9 +1,9 @@
 ghost use Rattle.std.specs.Prelude.{◌≡◌, ◌==◌, ◌++◌, ◌*◌, ◌≤◌, OnOk, length};
 ghost use Rattle.std.specs.Int.{to_be_bytes, w16};
 ghost use Rattle.std.specs.List.{AllByRecursion, flat_map};
-ghost use Rattle.svr_record.specs.Bodies.{term_body};
+ghost use Rattle.svr_record.specs.Bodies.{body_of, term_body};
 ghost use Rattle.svr_record.specs.Grammar.{slice_in};
-ghost use Rattle.svr_record.specs.Limits.{IsTerm, page_count};
+ghost use Rattle.svr_record.specs.Limits.{IsSlice, IsTerm, page_count};
 ghost use Rattle.svr_record.specs.Reading.{Gives, many_at, term_at};
 
 use crate::fault::RecordFault;
@@ -74,7 +74,7 @@ pub(crate) fn slice(alloc: Global, bytes: &[u8]) -> Result<Record, RecordFault>
 }
 
 /// Appends a term.
-pub(crate) fn put_term(out: &mut Vec<u8>, term: &TermPages) -> Result<(), Memory>
+fn put_term(out: &mut Vec<u8>, term: &TermPages) -> Result<(), Memory>
     requires { IsTerm term.now }
     ensures { OnOk result (out.new.items ≡ out.old.items ++ term_body term.now) }
 {
@@ -85,7 +85,7 @@ pub(crate) fn put_term(out: &mut Vec<u8>, term: &TermPages) -> Result<(), Memory
 }
 
 /// Appends the number of terms, and the terms.
-pub(crate) fn put_terms(out: &mut Vec<u8>, terms: &[TermPages]) -> Result<(), Memory>
+fn put_terms(out: &mut Vec<u8>, terms: &[TermPages]) -> Result<(), Memory>
     requires few { length terms.now ≤ 1000 }
     requires terms { AllByRecursion IsTerm terms.now }
     ensures { OnOk result (out.new.items ≡ out.old.items ++ to_be_bytes w16 (length terms.now) ++ flat_map term_body terms.now) }
@@ -94,5 +94,17 @@ pub(crate) fn put_terms(out: &mut Vec<u8>, terms: &[TermPages]) -> Result<(), Me
     for term in terms {
         put_term(out, term)?;
     }
+    Ok(())
+}
+
+/// Appends the body of a slice.
+pub(crate) fn put_slice(out: &mut Vec<u8>, terms: &[TermPages], pages: &[u8]) -> Result<(), Memory>
+    requires { IsSlice terms.now pages.now }
+    ensures { OnOk result (out.new.items ≡ out.old.items ++ body_of (Record.Slice terms.now pages.now)) }
+{
+    out.reserve(pages.len().saturating_add(260 * terms.len() + 3))?;
+    out.push(5)?;
+    put_terms(out, terms)?;
+    out.extend_from_slice(pages)?;
     Ok(())
 }
