@@ -96,9 +96,10 @@ number_takes w limit wide bytes x fits e =
     let is = some_is (from_be_bytes w (take (byte_len w) bytes), drop (byte_len w) bytes) x g.1 in
     let front : to_be_bytes w (from_be_bytes w (take (byte_len w) bytes)) ≡ take (byte_len w) bytes =
     wide.back (take (byte_len w) bytes) (omega (arith, length-take (byte_len w) bytes)) (IsBytes-take (byte_len w) bytes fits) in
-    subst (λ (y : ℕ × List ℕ). Takes bytes (to_be_bytes w y.0) y.1 × (y.0 < limit)) is
-    (record { parts = rw front (sym (take-append-drop (byte_len w) bytes)); rest_fits = IsBytes-drop (byte_len w) bytes fits },
-    wide.below (take (byte_len w) bytes) (IsBytes-take (byte_len w) bytes fits))
+    subst (λ (y : ℕ × List ℕ). Takes bytes (to_be_bytes w y.0) y.1 × (y.0 < limit)) is (
+      record { parts = rw front (sym (take-append-drop (byte_len w) bytes)); rest_fits = IsBytes-drop (byte_len w) bytes fits },
+      wide.below (take (byte_len w) bytes) (IsBytes-take (byte_len w) bytes fits),
+    )
 
 pub number_again : (w : Width) (limit : ℕ) (wide : IsWide w limit) (n : ℕ) (rest : List ℕ) → n < limit → number_at w (to_be_bytes w n ++ rest) ≡ Some (n, rest)
 number_again w limit wide n rest lt =
@@ -126,7 +127,7 @@ text_takes count bytes x fits e =
     let made : a.0 ≡ x = ap (λ (t : List ℕ). (t, a.0.1)) (some_is a.0.0 b.0 h.1) ∙ some_is (b.0, a.0.1) x b.2 in
     let front : TakesText count bytes a.0.0 a.0.1 = record {
       takes = subst (λ (y : List ℕ × List ℕ). Takes bytes y.0 y.1) is
-        (record { parts = sym (take-append-drop count bytes); rest_fits = IsBytes-drop count bytes fits });
+          (record { parts = sym (take-append-drop count bytes); rest_fits = IsBytes-drop count bytes fits });
       len = subst (λ (y : List ℕ × List ℕ). length y.0 ≡ count) is (omega (arith, length-take count bytes));
       utf8 = IsUtf8-from_is_utf8 a.0.0 h.0;
     } in

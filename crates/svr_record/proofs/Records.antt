@@ -1,9 +1,9 @@
 -- A record has one body: what is read is a record with this body, and what is written is read again.
-use Rattle.std.proofs.Common.{◌≡◌, ℕ, zero, suc, ◌+◌, ◌*◌, ◌^◌, ◌<◌, ◌≤◌, ◌==◌, ◌&&◌, ◌||◌, Bool, true, false, cond, eqb, ltb, ℤ, pos, negsuc}
+use Rattle.std.proofs.Common.{◌≡◌, ℕ, zero, suc, ◌*◌, ◌^◌, ◌<◌, ◌≤◌, ◌&&◌, ◌||◌, Bool, true, false, cond, eqb, ltb, ℤ, pos, negsuc}
 use Rattle.std.proofs.Common.{List, [], ◌∷◌, ◌++◌, length, Option, Some, None, Result, Ok, Err, refl, sym, ap, subst, ◌∙◌, append_assoc, arith}
-use Rattle.std.specs.Prelude.{IfOk, FitsSigned, IsUtf8}
+use Rattle.std.specs.Prelude.{IfOk, FitsSigned}
 use Rattle.std.specs.Int.{cast_signed, cast_unsigned, w16, w32, w64, to_be_bytes}
-use Rattle.std.specs.List.{flat_map, AllByRecursion}
+use Rattle.std.specs.List.{flat_map}
 use Rattle.std.proofs.lemmas.Bool.{and_parts, ltb-false, ltb-true, le-ltb, lt-ltb, eqb-true}
 use Rattle.std.proofs.lemmas.Bool.Decides.{nat_tests}
 use Rattle.std.proofs.lemmas.Int.{ints, of_z-to_z, to_z-of_z}
@@ -19,11 +19,11 @@ use Rattle.svr_record.specs.declared.record.Record.{Record}
 use Rattle.svr_record.specs.declared.record.Record.TheVariants as kind
 use Rattle.svr_record.specs.declared.record.TermPages.{TermPages}
 use Rattle.svr_record.specs.Bodies.{body_of, cell_body, change_body, flag, row_body, term_body}
-use Rattle.svr_record.specs.Grammar.{alone, begins_with_id, change_in, change_of, delete_in, flag_in, id_in, insert_in, is_end, load_in}
+use Rattle.svr_record.specs.Grammar.{alone, begins_with_id, change_in, delete_in, id_in, insert_in, is_end, load_in}
 use Rattle.svr_record.specs.Grammar.{record_in, record_of, row_in, row_of, schema_in, slice_in, slice_of, update_in}
 use Rattle.svr_record.specs.Limits.{IsCell, IsChange, IsRecord, IsRow, IsSlice, IsTerm, page_count}
 use Rattle.svr_record.specs.Reading.{◌>>=◌, Gives, cell_at, int_cell_at, many_at, number_at, term_at, text_at, text_cell_at}
-use Rattle.svr_record.proofs.Parts.{IsBytes, IsBytes-rest, Takes, Takes-then, TakesText, bind_some, kept, some_is, taken}
+use Rattle.svr_record.proofs.Parts.{IsBytes, IsBytes-rest, Takes, Takes-then, bind_some, kept, some_is, taken}
 use Rattle.svr_record.proofs.Parts.{many_again, many_takes, number_again, number_takes, text_again, text_takes, wide16, wide32, wide64}
 
 -- ---- cells
@@ -93,9 +93,10 @@ term_takes (suc n ∷ bytes) x fits e =
     let made : TermPages × List ℕ = (record { term = a.0.0; pages = b.0.0 }, b.0.1) in
     let spelled : suc n ∷ bytes ≡ term_body made.0 ++ made.1 =
     ap (λ (bs : List ℕ). suc n ∷ bs) both.parts ∙ ap (λ (k : ℕ). k ∷ ((a.0.0 ++ to_be_bytes w32 b.0.0) ++ b.0.1)) (sym t.len) in
-    subst (λ (y : TermPages × List ℕ). Takes (suc n ∷ bytes) (term_body y.0) y.1 × IsTerm y.0) (some_is made x b.2)
-    (record { parts = spelled; rest_fits = both.rest_fits },
-    record { some = omega (arith, t.len); few = omega (arith, t.len, fits 0); utf8 = t.utf8; pages = u.1 })
+    subst (λ (y : TermPages × List ℕ). Takes (suc n ∷ bytes) (term_body y.0) y.1 × IsTerm y.0) (some_is made x b.2) (
+      record { parts = spelled; rest_fits = both.rest_fits },
+      record { some = omega (arith, t.len); few = omega (arith, t.len, fits 0); utf8 = t.utf8; pages = u.1 },
+    )
 
 -- a term behind the number of its bytes
 counted_again : (count : ℕ) (t : TermPages) (rest : List ℕ) → length t.term ≡ count → IsTerm t
@@ -291,8 +292,12 @@ slice_again terms pages fits =
     let some = fits.some in
     let few = fits.few in
     let inside : (eqb (length terms) 0 || ltb 1000 (length terms)) ≡ false = grind (arith, nat_tests, some, few) in
-    rw (number_again w16 (2 ^ 16) wide16 (length terms) (flat_map term_body terms ++ pages) (omega (arith, few)), inside,
-    many_again term_at term_body IsTerm term_again terms pages fits.each, eq_itself _ _ fits.whole) refl
+    rw (
+      number_again w16 (2 ^ 16) wide16 (length terms) (flat_map term_body terms ++ pages) (omega (arith, few)),
+      inside,
+      many_again term_at term_body IsTerm term_again terms pages fits.each,
+      eq_itself _ _ fits.whole,
+    ) refl
 
 record_takes_of : (first : ℕ) (bytes : List ℕ) (entry : Record) → IsBytes bytes → record_of first bytes ≡ Some entry
     → (first ∷ bytes ≡ body_of entry) × IsRecord entry

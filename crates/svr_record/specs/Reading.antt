@@ -1,5 +1,5 @@
 -- Reading from left to right: a part, and the bytes behind it.
-use Rattle.std.specs.Prelude.{◌≡◌, ℕ, zero, suc, ⊤, ℤ, List, [], ◌∷◌, length, take, drop, nat_lt, if◌then◌else◌}
+use Rattle.std.specs.Prelude.{◌≡◌, ℕ, zero, suc, ⊤, List, [], ◌∷◌, length, take, drop, nat_lt, if◌then◌else◌}
 use Rattle.std.specs.Prelude.{Option, None, Some, Result, Ok, Err}
 use Rattle.std.specs.Int.{Width, byte_len, cast_signed, from_be_bytes, w32, w64}
 use Rattle.std.specs.Str.{is_utf8}

@@ -1,4 +1,3 @@
-use Rattle.std.proofs.Common.{◌++◌, ◌∷◌, []}
 use Rattle.std.proofs.lemmas.Result.{err_from_is_err_and}
 use Rattle.svr_record.specs.Reading.{cell_at, many_at}
 use Rattle.svr_record.proofs.Many.{ends, goes_on, is_done}
