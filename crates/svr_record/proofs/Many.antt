@@ -1,5 +1,6 @@
 -- Reading so many parts one behind the other, as a loop does.
-use Rattle.std.proofs.Common.{◌≡◌, ℕ, suc, ◌-◌, ◌+◌, ◌≤◌, ◌<◌, List, [], ◌∷◌, ◌++◌, Option, None, Some, refl, sym, ap, ◌∙◌, append_assoc, arith}
+use Rattle.std.proofs.Common.{◌≡◌, ℕ, suc, ◌-◌, ◌+◌, ◌≤◌, ◌<◌, List, [], ◌∷◌}
+use Rattle.std.proofs.Common.{◌++◌, Option, None, Some, refl, sym, ap, ◌∙◌, append_assoc, arith}
 use Rattle.std.proofs.lemmas.List.{append-nil}
 use Rattle.svr_record.specs.declared.fault.RecordFault.{RecordFault}
 use Rattle.svr_record.specs.declared.fault.RecordFault.TheVariants as fault
@@ -15,7 +16,8 @@ regroup {A} front x (Some y) = ap (λ (xs : List A). Some (xs, y.1)) (simp appen
 regroup front x None = refl
 
 pub goes_on : {A : Type 0} (part : List ℕ → Option (A × List ℕ)) (front : List A) (count i : ℕ) (bytes : List ℕ) (x : A) (after : List ℕ)
-    (total : Option (List A × List ℕ)) → i < count → part bytes ≡ Some (x, after) → with_front front (many_at part (count - i) bytes) ≡ total
+    (total : Option (List A × List ℕ)) → i < count → part bytes ≡ Some (x, after)
+    → with_front front (many_at part (count - i) bytes) ≡ total
     → with_front (front ++ x ∷ []) (many_at part (count - (i + 1)) after) ≡ total
 unfolding many_at
 goes_on part front count i bytes x after total lt h so_far =
@@ -39,5 +41,6 @@ pub is_done : {A : Type 0} (part : List ℕ → Option (A × List ℕ)) (front :
 unfolding many_at
 is_done {A} part front count i bytes total le so_far =
     let k : count - i ≡ 0 = omega arith in
-    let one : with_front front (many_at part (count - i) bytes) ≡ Some (front, bytes) = rw k (ap (λ (xs : List A). Some (xs, bytes)) (append-nil front)) in
+    let one : with_front front (many_at part (count - i) bytes) ≡ Some (front, bytes) =
+    rw k (ap (λ (xs : List A). Some (xs, bytes)) (append-nil front)) in
     sym so_far ∙ one

@@ -1,6 +1,7 @@
 -- A record has one body: what is read is a record with this body, and what is written is read again.
 use Rattle.std.proofs.Common.{◌≡◌, ℕ, zero, suc, ◌*◌, ◌^◌, ◌<◌, ◌≤◌, ◌&&◌, ◌||◌, Bool, true, false, cond, eqb, ltb, ℤ, pos, negsuc}
-use Rattle.std.proofs.Common.{List, [], ◌∷◌, ◌++◌, length, Option, Some, None, Result, Ok, Err, refl, sym, ap, subst, ◌∙◌, append_assoc, arith}
+use Rattle.std.proofs.Common.{List, [], ◌∷◌, ◌++◌, length, Option, Some, None, Result}
+use Rattle.std.proofs.Common.{Ok, Err, refl, sym, ap, subst, ◌∙◌, append_assoc, arith}
 use Rattle.std.specs.Prelude.{IfOk, FitsSigned}
 use Rattle.std.specs.Int.{cast_signed, cast_unsigned, w16, w32, w64, to_be_bytes}
 use Rattle.std.specs.List.{flat_map}
@@ -31,7 +32,8 @@ use Rattle.svr_record.proofs.Parts.{many_again, many_takes, number_again, number
 fits_signed : (n : ℕ) → n < 2 ^ 64 → FitsSigned w64 (cast_signed w64 n)
 fits_signed n lt = omega (arith, ints)
 
-int_cell_takes : (bytes : List ℕ) (x : Cell × List ℕ) → IsBytes bytes → int_cell_at bytes ≡ Some x → Takes (0 ∷ bytes) (cell_body x.0) x.1 × IsCell x.0
+int_cell_takes : (bytes : List ℕ) (x : Cell × List ℕ) → IsBytes bytes → int_cell_at bytes ≡ Some x
+    → Takes (0 ∷ bytes) (cell_body x.0) x.1 × IsCell x.0
 unfolding int_cell_at
 int_cell_takes bytes x fits e =
     let b = bind_some (number_at w64 bytes) (λ n. Some (cell.Int (cast_signed w64 n.0), n.1)) x e in
@@ -43,10 +45,12 @@ int_cell_takes bytes x fits e =
     subst (λ (y : Cell × List ℕ). Takes (0 ∷ bytes) (cell_body y.0) y.1 × IsCell y.0) (some_is made x b.2)
     (record { parts = spelled; rest_fits = t.0.rest_fits }, fits_signed b.0.0 t.1)
 
-text_cell_takes : (bytes : List ℕ) (x : Cell × List ℕ) → IsBytes bytes → text_cell_at bytes ≡ Some x → Takes (1 ∷ bytes) (cell_body x.0) x.1 × IsCell x.0
+text_cell_takes : (bytes : List ℕ) (x : Cell × List ℕ) → IsBytes bytes → text_cell_at bytes ≡ Some x
+    → Takes (1 ∷ bytes) (cell_body x.0) x.1 × IsCell x.0
 unfolding text_cell_at
 text_cell_takes bytes x fits e =
-    let b = bind_some (number_at w32 bytes) (λ n. cond (ltb 65536 n.0) None (text_at n.0 n.1 >>= λ text. Some (cell.Text text.0, text.1))) x e in
+    let b = bind_some (number_at w32 bytes)
+    (λ n. cond (ltb 65536 n.0) None (text_at n.0 n.1 >>= λ text. Some (cell.Text text.0, text.1))) x e in
     let g = kept (ltb 65536 b.0.0) (text_at b.0.0 b.0.1 >>= λ text. Some (cell.Text text.0, text.1)) x b.2 in
     let c = bind_some (text_at b.0.0 b.0.1) (λ text. Some (cell.Text text.0, text.1)) x g.1 in
     let t = number_takes w32 (2 ^ 32) wide32 bytes b.0 fits b.1 in
@@ -80,12 +84,14 @@ cell_again (cell.Text text) rest fits =
 
 -- ---- terms
 
-term_takes : (bytes : List ℕ) (x : TermPages × List ℕ) → IsBytes bytes → term_at bytes ≡ Some x → Takes bytes (term_body x.0) x.1 × IsTerm x.0
+term_takes : (bytes : List ℕ) (x : TermPages × List ℕ) → IsBytes bytes → term_at bytes ≡ Some x
+    → Takes bytes (term_body x.0) x.1 × IsTerm x.0
 unfolding term_at
 term_takes [] x fits e = absurd cc
 term_takes (zero ∷ bytes) x fits e = absurd cc
 term_takes (suc n ∷ bytes) x fits e =
-    let a = bind_some (text_at (suc n) bytes) (λ term. number_at w32 term.1 >>= λ pages. Some (record { term = term.0; pages = pages.0 }, pages.1)) x e in
+    let a = bind_some (text_at (suc n) bytes)
+    (λ term. number_at w32 term.1 >>= λ pages. Some (record { term = term.0; pages = pages.0 }, pages.1)) x e in
     let b = bind_some (number_at w32 a.0.1) (λ pages. Some (record { term = a.0.0; pages = pages.0 }, pages.1)) x a.2 in
     let t = text_takes (suc n) bytes a.0 (IsBytes-rest (suc n) bytes fits) a.1 in
     let u = number_takes w32 (2 ^ 32) wide32 a.0.1 b.0 t.takes.rest_fits b.1 in
@@ -105,7 +111,8 @@ unfolding term_at
 counted_again zero t rest len fits = absurd (omega (arith, len, fits.some))
 counted_again (suc n) t rest len fits =
     let text : text_at (suc n) (t.term ++ (to_be_bytes w32 t.pages ++ rest)) ≡ Some (t.term, to_be_bytes w32 t.pages ++ rest) =
-    ap (λ (k : ℕ). text_at k (t.term ++ (to_be_bytes w32 t.pages ++ rest))) (sym len) ∙ text_again t.term (to_be_bytes w32 t.pages ++ rest) fits.utf8 in
+    ap (λ (k : ℕ). text_at k (t.term ++ (to_be_bytes w32 t.pages ++ rest))) (sym len)
+    ∙ text_again t.term (to_be_bytes w32 t.pages ++ rest) fits.utf8 in
     ap (λ (bs : List ℕ). term_at (suc n ∷ bs)) (append_assoc t.term (to_be_bytes w32 t.pages) rest)
     ∙ rw (text, number_again w32 (2 ^ 32) wide32 t.pages rest fits.pages) refl
 
@@ -137,7 +144,8 @@ row_takes (count ∷ bytes) row fits e =
     let both = and_parts _ _ h.0 in
     let made : Row = record { cells = a.0.0 } in
     let spelled : count ∷ bytes ≡ row_body made =
-    ap (λ (bs : List ℕ). count ∷ bs) (t.0.parts ∙ ap (λ (r : List ℕ). flat_map cell_body a.0.0 ++ r) (ended a.0.1 both.0) ∙ append-nil (flat_map cell_body a.0.0))
+    ap (λ (bs : List ℕ). count ∷ bs) (t.0.parts ∙ ap (λ (r : List ℕ). flat_map cell_body a.0.0 ++ r) (ended a.0.1 both.0)
+    ∙ append-nil (flat_map cell_body a.0.0))
     ∙ ap (λ (k : ℕ). k ∷ flat_map cell_body a.0.0) (sym t.1) in
     let few : count ≤ 8 = ltb-false _ _ g.0 in
     subst (λ (y : Row). (count ∷ bytes ≡ row_body y) × IsRow y) (some_is made row h.1)
@@ -173,7 +181,8 @@ id_again id lt =
     let number : number_at w64 (to_be_bytes w64 id) ≡ Some (id, []) =
     ap (number_at w64) (sym (append-nil (to_be_bytes w64 id))) ∙ number_again w64 (2 ^ 64) wide64 id [] wide in
     let low : ltb id (2 ^ 63) ≡ true = lt-ltb id (2 ^ 63) lt in
-    ap (λ (r : Option (ℕ × List ℕ)). r >>= λ x. cond (is_end x.1 && ltb x.0 (2 ^ 63)) (Some x.0) None) number ∙ ap (λ b. cond b (Some id) None) low
+    ap (λ (r : Option (ℕ × List ℕ)). r >>= λ x. cond (is_end x.1 && ltb x.0 (2 ^ 63)) (Some x.0) None) number
+    ∙ ap (λ b. cond b (Some id) None) low
 
 insert_takes : (table : ℕ) (bytes : List ℕ) (made : Change) → IsBytes bytes → insert_in table bytes ≡ Some made
     → (1 ∷ table ∷ bytes ≡ change_body made) × IsChange made
@@ -226,7 +235,8 @@ schema_takes text entry e =
     let g = kept (is_end text || ltb 1048576 (length text)) (Some (kind.Schema text)) entry e in
     let some : 1 ≤ length text = grind (arith, nat_tests, g.0) in
     let few : length text ≤ 1048576 = grind (arith, nat_tests, g.0) in
-    subst (λ (y : Record). (1 ∷ text ≡ body_of y) × IsRecord y) (some_is (kind.Schema text) entry g.1) (refl, record { some = some; few = few })
+    subst (λ (y : Record). (1 ∷ text ≡ body_of y) × IsRecord y) (some_is (kind.Schema text) entry g.1)
+    (refl, record { some = some; few = few })
 
 schema_again : (text : List ℕ) → 1 ≤ length text → length text ≤ 1048576 → schema_in text ≡ Some (kind.Schema text)
 unfolding schema_in
@@ -235,7 +245,8 @@ schema_again text some few =
     rw inside refl
 
 load_takes_as : (header : Bool) (byte table : ℕ) (block : List ℕ) (entry : Record) → byte ≡ flag header
-    → cond (ltb 8388608 (length block)) None (Some (kind.Load table header block)) ≡ Some entry → (3 ∷ table ∷ byte ∷ block ≡ body_of entry) × IsRecord entry
+    → cond (ltb 8388608 (length block)) None (Some (kind.Load table header block)) ≡ Some entry
+    → (3 ∷ table ∷ byte ∷ block ≡ body_of entry) × IsRecord entry
 load_takes_as header byte table block entry is e =
     let g = kept (ltb 8388608 (length block)) (Some (kind.Load table header block)) entry e in
     let few : length block ≤ 8388608 = ltb-false _ _ g.0 in
@@ -306,7 +317,8 @@ record_takes_of (suc zero) bytes entry fits e = schema_takes bytes entry e
 record_takes_of (suc (suc zero)) bytes entry fits e =
     let a = bind_some (change_in bytes) (λ made. Some (kind.Change made)) entry e in
     let t = change_takes bytes a.0 fits a.1 in
-    subst (λ (y : Record). (2 ∷ bytes ≡ body_of y) × IsRecord y) (some_is (kind.Change a.0) entry a.2) (ap (λ (bs : List ℕ). 2 ∷ bs) t.0, t.1)
+    subst (λ (y : Record). (2 ∷ bytes ≡ body_of y) × IsRecord y) (some_is (kind.Change a.0) entry a.2)
+    (ap (λ (bs : List ℕ). 2 ∷ bs) t.0, t.1)
 record_takes_of (suc (suc (suc zero))) bytes entry fits e = load_takes bytes entry e
 record_takes_of (suc (suc (suc (suc zero)))) bytes entry fits e = alone_takes 4 kind.Begin bytes entry refl tt e
 record_takes_of (suc (suc (suc (suc (suc zero))))) bytes entry fits e = slice_takes bytes entry fits e
@@ -314,7 +326,8 @@ record_takes_of (suc (suc (suc (suc (suc (suc zero)))))) bytes entry fits e = al
 record_takes_of (suc (suc (suc (suc (suc (suc (suc n))))))) bytes entry fits e = absurd cc
 
 -- what is read is a record within the limits that has this body
-pub record_in-found : (body : List ℕ) (entry : Record) → IsBytes body → record_in body ≡ Some entry → IsRecord entry × (body ≡ body_of entry)
+pub record_in-found : (body : List ℕ) (entry : Record) → IsBytes body → record_in body ≡ Some entry
+    → IsRecord entry × (body ≡ body_of entry)
 unfolding record_in
 record_in-found [] entry fits e = absurd cc
 record_in-found (first ∷ bytes) entry fits e =

@@ -26,6 +26,7 @@ begins_with_id _ = false
 abbrev pub row_of : List Cell × List ℕ → Option Row
 row_of read = if is_end read.1 && begins_with_id read.0 then Some (record { cells = read.0 }) else None
 
+-- the row that all bytes are: at most 8 cells behind their number
 unfoldable pub row_in : List ℕ → Option Row
 row_in [] = None
 row_in (count ∷ bytes) = if nat_lt 8 count then None else (many_at cell_at count bytes >>= row_of)
@@ -36,41 +37,48 @@ id_in bytes = do
   id ← number_at w64 bytes
   if is_end id.1 && nat_lt id.0 (2 ^ 63) then Some id.0 else None
 
+-- the insert into a table that all bytes behind the table are
 unfoldable pub insert_in : ℕ → List ℕ → Option Change
 insert_in table bytes = do
   row ← row_in bytes
   Some (change.Insert table row)
 
+-- the update
 unfoldable pub update_in : ℕ → List ℕ → Option Change
 update_in table bytes = do
   row ← row_in bytes
   Some (change.Update table row)
 
+-- the delete
 unfoldable pub delete_in : ℕ → List ℕ → Option Change
 delete_in table bytes = do
   id ← id_in bytes
   Some (change.Delete table id)
 
+-- the same by its kind
 abbrev pub change_of : ℕ → ℕ → List ℕ → Option Change
 change_of (suc zero) table bytes = insert_in table bytes
 change_of (suc (suc zero)) table bytes = update_in table bytes
 change_of (suc (suc (suc zero))) table bytes = delete_in table bytes
 change_of _ table bytes = None
 
+-- the change that all bytes are: what it does, the table, and what it is of
 unfoldable pub change_in : List ℕ → Option Change
 change_in [] = None
 change_in (how ∷ []) = None
 change_in (how ∷ table ∷ bytes) = change_of how table bytes
 
+-- the record of a schema's text, 1 to 1,048,576 bytes
 unfoldable pub schema_in : List ℕ → Option Record
 schema_in text = if is_end text || nat_lt 1048576 (length text) then None else Some (kind.Schema text)
 
--- 0 or 1
+-- whether there is a header: 0 or 1
 abbrev pub flag_in : ℕ → Option Bool
 flag_in zero = Some false
 flag_in (suc zero) = Some true
 flag_in (suc (suc n)) = None
 
+-- the load: the table, whether there is a header, and a block of at most 8,388,608 bytes
 unfoldable pub load_in : List ℕ → Option Record
 load_in [] = None
 load_in (table ∷ []) = None
@@ -82,6 +90,7 @@ load_in (table ∷ header ∷ block) = do
 abbrev pub slice_of : List TermPages × List ℕ → Option Record
 slice_of read = if length read.1 == 4096 * page_count read.0 then Some (kind.Slice read.0 read.1) else None
 
+-- the slice: 1 to 1,000 terms behind their number, and their pages
 unfoldable pub slice_in : List ℕ → Option Record
 slice_in bytes = do
   count ← number_at w16 bytes
