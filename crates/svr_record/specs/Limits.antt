@@ -65,3 +65,41 @@ IsRecord (kind.Load table header block) = length block ≤ 8388608
 IsRecord kind.Begin = ⊤
 IsRecord (kind.Slice terms pages) = IsSlice terms pages
 IsRecord kind.Publish = ⊤
+
+-- the limits alone, which a caller knows: not that texts are UTF-8 and that numbers are in their types
+abbrev pub CellFits : Cell → Type 0
+CellFits (cell.Int n) = ⊤
+CellFits (cell.Text text) = length text ≤ 65536
+
+-- the same of a row
+pub record RowFits (row : Row) : Type 0 where
+  pub few : length row.cells ≤ 8
+  pub id : HasId row
+  pub cells : AllByRecursion CellFits row.cells
+
+-- of a change
+abbrev pub ChangeFits : Change → Type 0
+ChangeFits (change.Insert table row) = RowFits row
+ChangeFits (change.Update table row) = RowFits row
+ChangeFits (change.Delete table id) = id < 2 ^ 63
+
+-- of a term
+pub record TermFits (t : TermPages) : Type 0 where
+  pub some : 1 ≤ length t.term
+  pub few : length t.term ≤ 255
+
+-- of a slice
+pub record SliceFits (terms : List TermPages) (pages : List ℕ) : Type 0 where
+  pub some : 1 ≤ length terms
+  pub few : length terms ≤ 1000
+  pub each : AllByRecursion TermFits terms
+  pub whole : length pages ≡ 4096 * page_count terms
+
+-- of a record
+abbrev pub RecordFits : Record → Type 0
+RecordFits (kind.Schema text) = IsSchemaText text
+RecordFits (kind.Change made) = ChangeFits made
+RecordFits (kind.Load table header block) = length block ≤ 8388608
+RecordFits kind.Begin = ⊤
+RecordFits (kind.Slice terms pages) = SliceFits terms pages
+RecordFits kind.Publish = ⊤

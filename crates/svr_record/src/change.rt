@@ -1,7 +1,7 @@
 ghost use Rattle.std.specs.Prelude.{◌≡◌, ◌++◌, OnOk};
 ghost use Rattle.svr_record.specs.Bodies.{change_body};
 ghost use Rattle.svr_record.specs.Grammar.{change_in, delete_in, id_in, insert_in, update_in};
-ghost use Rattle.svr_record.specs.Limits.{IsChange};
+ghost use Rattle.svr_record.specs.Limits.{ChangeFits, IsChange};
 ghost use Rattle.svr_record.specs.Reading.{Gives};
 
 use crate::fault::RecordFault;
@@ -63,8 +63,9 @@ pub(crate) fn change(alloc: Global, bytes: &[u8]) -> Result<Change, RecordFault>
 
 /// Appends a change.
 pub(crate) fn put_change(out: &mut Vec<u8>, change: &Change) -> Result<(), Memory>
-    requires { IsChange change.now }
-    ensures { OnOk result (out.new.items ≡ out.old.items ++ change_body change.now) }
+    requires { ChangeFits change.now }
+    ensures is_change { OnOk result (IsChange change.now) }
+    ensures body { OnOk result (out.new.items ≡ out.old.items ++ change_body change.now) }
 {
     match change {
         Change::Insert { table, row } => {

@@ -1,7 +1,7 @@
 ghost use Rattle.std.specs.Prelude.{◌≡◌, ◌++◌, ◌<◌, ◌^◌, OnOk};
 ghost use Rattle.svr_record.specs.Bodies.{cell_body, row_body};
 ghost use Rattle.svr_record.specs.Grammar.{begins_with_id, row_in};
-ghost use Rattle.svr_record.specs.Limits.{IsCell, IsRow};
+ghost use Rattle.svr_record.specs.Limits.{CellFits, IsCell, IsRow, RowFits};
 ghost use Rattle.svr_record.specs.Reading.{Gives, cell_at, int_cell_at, many_at, text_cell_at};
 
 use crate::fault::RecordFault;
@@ -92,8 +92,9 @@ pub(crate) fn row(alloc: Global, bytes: &[u8]) -> Result<Row, RecordFault>
 
 /// Appends a cell.
 fn put_cell(out: &mut Vec<u8>, cell: &Cell) -> Result<(), Memory>
-    requires { IsCell cell.now }
-    ensures { OnOk result (out.new.items ≡ out.old.items ++ cell_body cell.now) }
+    requires { CellFits cell.now }
+    ensures is_cell { OnOk result (IsCell cell.now) }
+    ensures body { OnOk result (out.new.items ≡ out.old.items ++ cell_body cell.now) }
 {
     match cell {
         Cell::Int(number) => {
@@ -111,8 +112,9 @@ fn put_cell(out: &mut Vec<u8>, cell: &Cell) -> Result<(), Memory>
 
 /// Appends a row.
 pub(crate) fn put_row(out: &mut Vec<u8>, row: &Row) -> Result<(), Memory>
-    requires { IsRow row.now }
-    ensures { OnOk result (out.new.items ≡ out.old.items ++ row_body row.now) }
+    requires { RowFits row.now }
+    ensures is_row { OnOk result (IsRow row.now) }
+    ensures body { OnOk result (out.new.items ≡ out.old.items ++ row_body row.now) }
 {
     out.push(row.cells.len() as u8)?;
     for cell in row.cells.as_slice() {

@@ -3,7 +3,7 @@ ghost use Rattle.std.specs.Int.{to_be_bytes, w16};
 ghost use Rattle.std.specs.List.{AllByRecursion, flat_map};
 ghost use Rattle.svr_record.specs.Bodies.{body_of, term_body};
 ghost use Rattle.svr_record.specs.Grammar.{slice_in};
-ghost use Rattle.svr_record.specs.Limits.{IsSlice, IsTerm, page_count};
+ghost use Rattle.svr_record.specs.Limits.{IsSlice, IsTerm, SliceFits, TermFits, page_count};
 ghost use Rattle.svr_record.specs.Reading.{Gives, many_at, term_at};
 
 use crate::fault::RecordFault;
@@ -75,8 +75,9 @@ pub(crate) fn slice(alloc: Global, bytes: &[u8]) -> Result<Record, RecordFault>
 
 /// Appends a term.
 fn put_term(out: &mut Vec<u8>, term: &TermPages) -> Result<(), Memory>
-    requires { IsTerm term.now }
-    ensures { OnOk result (out.new.items ≡ out.old.items ++ term_body term.now) }
+    requires { TermFits term.now }
+    ensures is_term { OnOk result (IsTerm term.now) }
+    ensures body { OnOk result (out.new.items ≡ out.old.items ++ term_body term.now) }
 {
     out.push(term.term.len() as u8)?;
     out.extend_from_slice(term.term.as_str().as_bytes())?;
@@ -87,8 +88,9 @@ fn put_term(out: &mut Vec<u8>, term: &TermPages) -> Result<(), Memory>
 /// Appends the number of terms, and the terms.
 fn put_terms(out: &mut Vec<u8>, terms: &[TermPages]) -> Result<(), Memory>
     requires few { length terms.now ≤ 1000 }
-    requires terms { AllByRecursion IsTerm terms.now }
-    ensures { OnOk result (out.new.items ≡ out.old.items ++ to_be_bytes w16 (length terms.now) ++ flat_map term_body terms.now) }
+    requires terms { AllByRecursion TermFits terms.now }
+    ensures are_terms { OnOk result (AllByRecursion IsTerm terms.now) }
+    ensures body { OnOk result (out.new.items ≡ out.old.items ++ to_be_bytes w16 (length terms.now) ++ flat_map term_body terms.now) }
 {
     out.extend_from_slice(&(terms.len() as u16).to_be_bytes())?;
     for term in terms {
@@ -99,8 +101,9 @@ fn put_terms(out: &mut Vec<u8>, terms: &[TermPages]) -> Result<(), Memory>
 
 /// Appends the body of a slice.
 pub(crate) fn put_slice(out: &mut Vec<u8>, terms: &[TermPages], pages: &[u8]) -> Result<(), Memory>
-    requires { IsSlice terms.now pages.now }
-    ensures { OnOk result (out.new.items ≡ out.old.items ++ body_of (Record.Slice terms.now pages.now)) }
+    requires { SliceFits terms.now pages.now }
+    ensures is_slice { OnOk result (IsSlice terms.now pages.now) }
+    ensures body { OnOk result (out.new.items ≡ out.old.items ++ body_of (Record.Slice terms.now pages.now)) }
 {
     out.reserve(pages.len().saturating_add(260 * terms.len() + 3))?;
     out.push(5)?;

@@ -1,7 +1,7 @@
 ghost use Rattle.std.specs.Prelude.{◌≡◌, ◌++◌, ◌≤◌, IfOk, OnOk, Some, length};
 ghost use Rattle.svr_record.specs.Bodies.{body_of};
 ghost use Rattle.svr_record.specs.Grammar.{record_in};
-ghost use Rattle.svr_record.specs.Limits.{IsRecord, IsSchemaText};
+ghost use Rattle.svr_record.specs.Limits.{IsRecord, IsSchemaText, RecordFits};
 
 use crate::change::put_change;
 use crate::record::Record;
@@ -33,8 +33,10 @@ fn put_load(out: &mut Vec<u8>, table: u8, header: bool, block: &[u8]) -> Result<
 
 /// Appends a record's body, with the room for what is long in it taken at once.
 pub fn write_record_into(out: &mut Vec<u8>, entry: &Record) -> Result<(), Memory>
-    requires { IsRecord entry.now }
-    ensures { OnOk result (out.new.items ≡ out.old.items ++ body_of entry.now) }
+    requires { RecordFits entry.now }
+    // Its texts are UTF-8, and its numbers are in their types.
+    ensures is_record { OnOk result (IsRecord entry.now) }
+    ensures body { OnOk result (out.new.items ≡ out.old.items ++ body_of entry.now) }
 {
     match entry {
         Record::Schema(text) => put_schema(out, text.as_slice())?,
@@ -56,7 +58,8 @@ pub fn write_record_into(out: &mut Vec<u8>, entry: &Record) -> Result<(), Memory
 
 /// A record's body.
 pub fn write_record(alloc: Global, entry: &Record) -> Result<Vec<u8>, Memory>
-    requires { IsRecord entry.now }
+    requires { RecordFits entry.now }
+    ensures is_record { IfOk result (λ _. IsRecord entry.now) }
     ensures body { IfOk result (λ out. out.items ≡ body_of entry.now) }
     ensures read_again { IfOk result (λ out. record_in out.items ≡ Some entry.now) }
 {
