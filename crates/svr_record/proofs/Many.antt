@@ -1,0 +1,46 @@
+-- Reading so many parts one behind the other, as a loop does.
+use Rattle.std.proofs.Common.{◌≡◌, ℕ, suc, ◌-◌, ◌+◌, ◌≤◌, ◌<◌, List, [], ◌∷◌}
+use Rattle.std.proofs.Common.{◌++◌, Option, None, Some, refl, sym, ap, ◌∙◌, append_assoc, arith}
+use Rattle.std.proofs.lemmas.List.{append-nil}
+use Rattle.svr_record.specs.declared.fault.RecordFault.{RecordFault}
+use Rattle.svr_record.specs.declared.fault.RecordFault.TheVariants as fault
+use Rattle.svr_record.specs.Reading.{◌>>=◌, Fails, many_at}
+
+-- parts that were read before, and those that reading gives
+abbrev pub with_front : {A : Type 0} → List A → Option (List A × List ℕ) → Option (List A × List ℕ)
+with_front front read = read >>= λ x. Some (front ++ x.0, x.1)
+
+regroup : {A : Type 0} (front : List A) (x : A) (read : Option (List A × List ℕ))
+    → with_front front (read >>= λ y. Some (x ∷ y.0, y.1)) ≡ with_front (front ++ x ∷ []) read
+regroup {A} front x (Some y) = ap (λ (xs : List A). Some (xs, y.1)) (simp append_assoc)
+regroup front x None = refl
+
+pub goes_on : {A : Type 0} (part : List ℕ → Option (A × List ℕ)) (front : List A) (count i : ℕ) (bytes : List ℕ) (x : A) (after : List ℕ)
+    (total : Option (List A × List ℕ)) → i < count → part bytes ≡ Some (x, after)
+    → with_front front (many_at part (count - i) bytes) ≡ total
+    → with_front (front ++ x ∷ []) (many_at part (count - (i + 1)) after) ≡ total
+unfolding many_at
+goes_on part front count i bytes x after total lt h so_far =
+    let k : count - i ≡ suc (count - (i + 1)) = omega arith in
+    let one : with_front front (many_at part (count - i) bytes) ≡ with_front (front ++ x ∷ []) (many_at part (count - (i + 1)) after) =
+    rw (k, h) (regroup front x (many_at part (count - (i + 1)) after)) in
+    sym one ∙ so_far
+
+pub ends : {A : Type 0} (why : RecordFault) (part : List ℕ → Option (A × List ℕ)) (front : List A) (count i : ℕ) (bytes : List ℕ)
+    (total : Option (List A × List ℕ)) → i < count → Fails why (part bytes) → with_front front (many_at part (count - i) bytes) ≡ total
+    → Fails why total
+unfolding many_at
+ends fault.Memory part front count i bytes total lt h so_far = tt
+ends fault.NotARecord part front count i bytes total lt h so_far =
+    let k : count - i ≡ suc (count - (i + 1)) = omega arith in
+    let one : with_front front (many_at part (count - i) bytes) ≡ None = rw (k, h) refl in
+    sym so_far ∙ one
+
+pub is_done : {A : Type 0} (part : List ℕ → Option (A × List ℕ)) (front : List A) (count i : ℕ) (bytes : List ℕ)
+    (total : Option (List A × List ℕ)) → count ≤ i → with_front front (many_at part (count - i) bytes) ≡ total → total ≡ Some (front, bytes)
+unfolding many_at
+is_done {A} part front count i bytes total le so_far =
+    let k : count - i ≡ 0 = omega arith in
+    let one : with_front front (many_at part (count - i) bytes) ≡ Some (front, bytes) =
+    rw k (ap (λ (xs : List A). Some (xs, bytes)) (append-nil front)) in
+    sym so_far ∙ one

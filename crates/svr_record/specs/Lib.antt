@@ -1,0 +1,4 @@
+pub mod Bodies
+pub mod Grammar
+pub mod Limits
+pub mod Reading

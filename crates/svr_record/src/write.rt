@@ -1,0 +1,69 @@
+ghost use Rattle.std.specs.Prelude.{◌≡◌, ◌++◌, ◌≤◌, IfOk, OnOk, Some, length};
+ghost use Rattle.svr_record.specs.Bodies.{body_of};
+ghost use Rattle.svr_record.specs.Grammar.{record_in};
+ghost use Rattle.svr_record.specs.Limits.{IsRecord, IsSchemaText, RecordFits};
+
+use crate::change::put_change;
+use crate::record::Record;
+use crate::slice::put_slice;
+use std::alloc::Global;
+use svr_edge::Memory;
+
+/// Appends the body of a schema's record.
+fn put_schema(out: &mut Vec<u8>, text: &[u8]) -> Result<(), Memory>
+    requires { IsSchemaText text.now }
+    ensures { OnOk result (out.new.items ≡ out.old.items ++ body_of (Record.Schema text.now)) }
+{
+    out.reserve(text.len() + 1)?;
+    out.push(1)?;
+    out.extend_from_slice(text)?;
+    Ok(())
+}
+
+/// Appends the body of a load.
+fn put_load(out: &mut Vec<u8>, table: u8, header: bool, block: &[u8]) -> Result<(), Memory>
+    requires { length block.now ≤ 8388608 }
+    ensures { OnOk result (out.new.items ≡ out.old.items ++ body_of (Record.Load table header block.now)) }
+{
+    out.reserve(block.len() + 3)?;
+    out.extend_from_slice(&[3, table, header as u8])?;
+    out.extend_from_slice(block)?;
+    Ok(())
+}
+
+/// Appends a record's body, with the room for what is long in it taken at once.
+pub fn write_record_into(out: &mut Vec<u8>, entry: &Record) -> Result<(), Memory>
+    requires { RecordFits entry.now }
+    // Its texts are UTF-8, and its numbers are in their types.
+    ensures is_record { OnOk result (IsRecord entry.now) }
+    ensures body { OnOk result (out.new.items ≡ out.old.items ++ body_of entry.now) }
+{
+    match entry {
+        Record::Schema(text) => put_schema(out, text.as_slice())?,
+        Record::Change(change) => {
+            out.push(2)?;
+            put_change(out, change)?;
+        }
+        Record::Load {
+            table,
+            header,
+            block,
+        } => put_load(out, *table, *header, block.as_slice())?,
+        Record::Begin => out.push(4)?,
+        Record::Slice { terms, pages } => put_slice(out, terms.as_slice(), pages.as_slice())?,
+        Record::Publish => out.push(6)?,
+    }
+    Ok(())
+}
+
+/// A record's body.
+pub fn write_record(alloc: Global, entry: &Record) -> Result<Vec<u8>, Memory>
+    requires { RecordFits entry.now }
+    ensures is_record { IfOk result (λ _. IsRecord entry.now) }
+    ensures body { IfOk result (λ out. out.items ≡ body_of entry.now) }
+    ensures read_again { IfOk result (λ out. record_in out.items ≡ Some entry.now) }
+{
+    let mut out = Vec::new(alloc);
+    write_record_into(&mut out, entry)?;
+    Ok(out)
+}
