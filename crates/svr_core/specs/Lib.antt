@@ -4,6 +4,8 @@ pub mod Documents
 pub mod Edits
 pub mod Keeping
 pub mod Outcomes
+pub mod Plans
+pub mod Replay
 pub mod Run
 pub mod State
 pub mod Steps

@@ -1,15 +1,18 @@
--- What comes of a request: one case for each.
+-- What comes of a request, and of a record that is read again: one case for each.
 use Rattle.std.specs.Prelude.{ℕ, ℤ, ◌&&◌, Bool, true, false, pos, negsuc, List, [], ◌∷◌, length}
 use Rattle.std.specs.Prelude.{map, nat_lt, nat_le, if◌then◌else◌, Option, Some, None, Result, Ok, Err}
 use Rattle.std.specs.List.{filter_map}
 use Rattle.serde_json.specs.Data.{Data}
+use Rattle.serde_json.specs.Written.{compact_text}
 use Rattle.svr_num.specs.declared.mode.Mode.{Mode}
 use Rattle.svr_request.specs.declared.refusal.Refusal.{Refusal}
 use Rattle.svr_request.specs.declared.refusal.Refusal.TheVariants as refusal
 use Rattle.svr_request.specs.declared.reply.Answer.{Answer}
 use Rattle.svr_csvload.specs.Blocks.{rows_in_block}
 use Rattle.svr_request.specs.Requests.{Submitted, Wanted, schema, insert, update, delete, load, search, merge, merge_begin}
-use Rattle.svr_request.specs.Requests.{merge_slice, merge_publish}
+use Rattle.svr_request.specs.Requests.{merge_slice, merge_publish, value_in}
+use Rattle.svr_record.specs.declared.record.Record.{Record}
+use Rattle.svr_record.specs.declared.record.Record.TheVariants as entry
 use Rattle.svr_rows.specs.declared.change.Change.{Change}
 use Rattle.svr_rows.specs.declared.change.Change.TheVariants.{Insert, Update, Delete}
 use Rattle.svr_rows.specs.declared.change.RowRefusal.{RowRefusal}
@@ -25,13 +28,13 @@ use Rattle.svr_schema.specs.Lookups.{table_at}
 use Rattle.svr_schema.specs.Rules.{schema_in}
 use Rattle.svr_tokens.specs.Tokens.{tokens_of}
 use Rattle.svr_core.specs.Answers.{answer_of}
-use Rattle.svr_core.specs.State.{Catalog, State, new_catalog}
+use Rattle.svr_core.specs.State.{Catalog, Served, new_catalog}
 
--- a request is refused, or answered, or it changes what is served
+-- a request is refused, or answered, or it changes what is served, and this record is kept of it
 pub data Outcome : Type 0 where
   refused : Refusal → Outcome
   found : Answer → Outcome
-  changes_to : Catalog → Outcome
+  changes_to : Catalog → Record → Outcome
 
 -- ---- a schema
 
@@ -40,18 +43,18 @@ is_plain method.Id = true
 is_plain _ = false
 
 -- a rule that holds as yet: the method is `id`
-abbrev pub served_so_far : Schema → Outcome
-served_so_far s = if is_plain s.method then changes_to (new_catalog s) else refused (refusal.BadSchema 14)
+abbrev pub served_so_far : Data → Schema → Outcome
+served_so_far d s = if is_plain s.method then changes_to (new_catalog s) (entry.Schema (compact_text d)) else refused (refusal.BadSchema 14)
 
 -- the schema that a value says, or the first rule that fails
-abbrev pub by_rules : Result Schema ℕ → Outcome
-by_rules (Err n) = refused (refusal.BadSchema n)
-by_rules (Ok s) = served_so_far s
+abbrev pub by_rules : Data → Result Schema ℕ → Outcome
+by_rules d (Err n) = refused (refusal.BadSchema n)
+by_rules d (Ok s) = served_so_far d s
 
 -- a schema is set once
 abbrev pub schema_outcome : Option Catalog → Data → Outcome
 schema_outcome (Some c) d = refused refusal.SchemaSet
-schema_outcome None d = by_rules (schema_in d)
+schema_outcome None d = by_rules d (schema_in d)
 
 -- ---- changes
 
@@ -65,12 +68,13 @@ refusal_of_row n why.NoRow = refusal.NoRow
 refusal_of_row n why.TableFull = refusal.TableFull n
 refusal_of_row n why.TextFull = refusal.TextFull n
 
-abbrev pub unless_refused : Option RowRefusal → Catalog → Outcome
-unless_refused (Some r) c = refused (refusal_of_row None r)
-unless_refused None c = changes_to c
+abbrev pub unless_refused : Option RowRefusal → Outcome → Outcome
+unless_refused (Some r) later = refused (refusal_of_row None r)
+unless_refused None later = later
 
 abbrev pub change_outcome : Catalog → Change → Outcome
-change_outcome c change = unless_refused (refusal_of c.tables change) (record { schema = c.schema; tables = changed c.tables change })
+change_outcome c change = unless_refused (refusal_of c.tables change)
+    (changes_to (record { schema = c.schema; tables = changed c.tables change }) (entry.Change change))
 
 -- the row that values make
 abbrev pub row_of : List Given → Row
@@ -101,19 +105,26 @@ delete_outcome c table id = in_table (table_at c.schema.tables table) (λ at. ch
 
 -- ---- loads
 
-abbrev pub unless_row_refused : Option (ℕ × RowRefusal) → Catalog → Outcome
-unless_row_refused (Some r) c = refused (refusal_of_row (Some r.0) r.1)
-unless_row_refused None c = changes_to c
+abbrev pub unless_row_refused : Option (ℕ × RowRefusal) → Outcome → Outcome
+unless_row_refused (Some r) later = refused (refusal_of_row (Some r.0) r.1)
+unless_row_refused None later = later
 
--- all rows of a block are inserted, one after the other, or none
-abbrev pub rows_outcome : Catalog → ℕ → Result (List Row) ℕ → Outcome
-rows_outcome c table (Err n) = refused (refusal.BadCsv n)
-rows_outcome c table (Ok rows) =
-    unless_row_refused (load_refusal c.tables table rows) (record { schema = c.schema; tables = inserted c.tables table rows })
+-- rows are inserted, one after the other, or none; the record is that of the load
+abbrev pub rows_outcome : Catalog → ℕ → Record → List Row → Outcome
+rows_outcome c table load rows = unless_row_refused (load_refusal c.tables table rows)
+    (changes_to (record { schema = c.schema; tables = inserted c.tables table rows }) load)
+
+abbrev pub unless_bad_record : Result (List Row) ℕ → (List Row → Outcome) → Outcome
+unless_bad_record (Err n) later = refused (refusal.BadCsv n)
+unless_bad_record (Ok rows) later = later rows
+
+-- the rows of a block are inserted into the table at a place
+abbrev pub block_outcome : Catalog → ℕ → Bool → List ℕ → Outcome
+block_outcome c table header block = unless_bad_record (rows_in_block (kinds_in c.tables table) header block)
+    (rows_outcome c table (entry.Load table header block))
 
 abbrev pub load_outcome : Catalog → List ℕ → Bool → List ℕ → Outcome
-load_outcome c table header block =
-    in_table (table_at c.schema.tables table) (λ at. rows_outcome c at (rows_in_block (kinds_in c.tables at) header block))
+load_outcome c table header block = in_table (table_at c.schema.tables table) (λ at. block_outcome c at header block)
 
 -- ---- searches
 
@@ -154,5 +165,26 @@ abbrev pub asked_outcome : Option Catalog → Result Wanted Refusal → List ℕ
 asked_outcome c (Err why) block = refused why
 asked_outcome c (Ok w) block = wanted_outcome c w block
 
-unfoldable pub outcome_of : State → Submitted → Outcome
+-- what comes of a request over what is served
+unfoldable pub outcome_of : Served → Submitted → Outcome
 outcome_of s p = asked_outcome s.catalog p.request p.block
+
+-- ---- records that are read again
+
+-- a schema's text
+abbrev pub text_outcome : Option Catalog → Option Data → Outcome
+text_outcome c None = refused refusal.NotJson
+text_outcome c (Some d) = schema_outcome c d
+
+-- a load into the table at a place, if there is one
+abbrev pub placed_outcome : Catalog → ℕ → Bool → List ℕ → Outcome
+placed_outcome c table header block = if nat_lt table (length c.tables) then block_outcome c table header block else refused refusal.NoTable
+
+-- what comes of a record; those of merges aren't served as yet
+unfoldable pub entry_outcome : Option Catalog → Record → Outcome
+entry_outcome c (entry.Schema text) = text_outcome c (value_in text)
+entry_outcome c (entry.Change change) = with_catalog c (λ c. change_outcome c change)
+entry_outcome c (entry.Load table header block) = with_catalog c (λ c. placed_outcome c table header block)
+entry_outcome c entry.Begin = refused refusal.UnknownOp
+entry_outcome c (entry.Slice terms pages) = refused refusal.UnknownOp
+entry_outcome c entry.Publish = refused refusal.UnknownOp

@@ -1,9 +1,15 @@
 -- Words of private clauses: what the parts of the program answer, beside the outcome of a request.
-use Rattle.std.specs.Prelude.{◌≡◌, ◌⊎◌, ◌≤◌, ℕ, List, length, Option, Some, Result, Err, IfErr, IfOk}
+use Rattle.std.specs.Prelude.{◌≡◌, ◌⊎◌, ◌<◌, ◌^◌, ℕ, List, None, Option, Some, Result, Err, IfErr, IfOk, OnOk}
 use Rattle.svr_request.specs.declared.refusal.Refusal.{Refusal}
 use Rattle.svr_request.specs.declared.refusal.Refusal.TheVariants as refusal
 use Rattle.svr_csvload.specs.declared.refusal.CsvRefusal.{CsvRefusal}
 use Rattle.svr_csvload.specs.declared.refusal.CsvRefusal.TheVariants as csv
+use Rattle.svr_journal.specs.declared.faults.JournalError.{JournalError}
+use Rattle.svr_journal.specs.declared.faults.JournalError.TheVariants as error_of
+use Rattle.svr_record.specs.Limits.{ChangeFits}
+use Rattle.svr_rows.specs.Changes.{refusal_of}
+use Rattle.svr_rows.specs.declared.change.Change.{Change}
+use Rattle.svr_rows.specs.declared.change.Change.TheVariants as change
 use Rattle.svr_rows.specs.declared.load.LoadRefusal.{LoadRefusal}
 use Rattle.svr_rows.specs.declared.load.LoadRefusal.TheVariants as load
 use Rattle.svr_rows.specs.declared.row.Row.{Row}
@@ -12,15 +18,12 @@ use Rattle.svr_schema.specs.declared.error.SchemaError.TheVariants as error
 use Rattle.svr_tokens.specs.declared.query.QueryRefusal.{QueryRefusal}
 use Rattle.svr_tokens.specs.declared.query.QueryRefusal.TheVariants as query
 use Rattle.svr_core.specs.declared.plan.Edit.{Edit}
-use Rattle.svr_core.specs.declared.plan.Plan.{Plan}
-use Rattle.svr_core.specs.declared.plan.Plan.TheVariants as plan
-use Rattle.svr_core.specs.Edits.{Accepts, edited}
-use Rattle.svr_core.specs.Outcomes.{Outcome, refused, found, changes_to, refusal_of_row}
-use Rattle.svr_core.specs.State.{Catalog}
-
--- a refusal is that of the outcome, or want of memory
-abbrev pub MayRefuse : Outcome → Refusal → Type 0
-MayRefuse o why = (o ≡ refused why) ⊎ (why ≡ refusal.Memory)
+use Rattle.svr_core.specs.declared.replay.ReplayFault.{ReplayFault}
+use Rattle.svr_core.specs.declared.replay.ReplayFault.TheVariants as fault
+use Rattle.svr_core.specs.Outcomes.{Outcome, refusal_of_row}
+use Rattle.svr_core.specs.Plans.{IsEdit, MayRefuse}
+use Rattle.svr_core.specs.Replay.{after_body}
+use Rattle.svr_core.specs.State.{Catalog, Served}
 
 abbrev pub query_refusal : QueryRefusal → Refusal
 query_refusal query.NoTerms = refusal.NoTerms
@@ -39,28 +42,25 @@ abbrev pub schema_refusal : SchemaError → Refusal
 schema_refusal (error.Rule n) = refusal.BadSchema n
 schema_refusal error.Memory = refusal.Memory
 
--- an edit is what the outcome says, and may be made
-pub record IsEdit (o : Outcome) (set : Option Catalog) (e : Edit) : Type 0 where
-  pub after : Catalog
-  pub outcome : o ≡ changes_to after
-  pub accepted : Accepts set e
-  pub made : edited set e ≡ Some after
-
--- a plan is what the outcome says
-abbrev pub IsPlan : Outcome → Option Catalog → Plan → Type 0
-IsPlan o set (plan.Answer answer) = o ≡ found answer
-IsPlan o set (plan.Edit e) = IsEdit o set e
-
--- an answer has at most 1,000 hits
-abbrev pub IsShort : Plan → Type 0
-IsShort (plan.Answer answer) = length answer.hits ≤ 1000
-IsShort (plan.Edit e) = Unit {0}
-
--- the plan or the refusal of what has this outcome where a catalog is set, or none
-pub record Plans (o : Outcome) (set : Option Catalog) (result : Result Plan Refusal) : Type 0 where
-  pub plan : IfOk result (IsPlan o set)
-  pub short : IfOk result IsShort
+-- the edit of what has this outcome where a catalog is set, or none, or its refusal
+pub record Edits (o : Outcome) (set : Option Catalog) (result : Result Edit Refusal) : Type 0 where
+  pub edit : IfOk result (IsEdit o set)
   pub refused : IfErr result (MayRefuse o)
+
+-- a change of the rows that no row refuses, and whose row and id can be kept
+pub record CanChange (c : Catalog) (change : Change) : Type 0 where
+  pub accepted : refusal_of c.tables change ≡ None
+  pub fits : ChangeFits change
+
+-- an id that is deleted is below 2^63
+abbrev pub DeletesId : Change → Type 0
+DeletesId (change.Delete at id) = id < 2 ^ 63
+DeletesId _ = Unit {0}
+
+-- what comes of a body that is read again
+pub record TakesBody (old new : Served) (body : List ℕ) (result : Result (Unit {0}) ReplayFault) : Type 0 where
+  pub ok : OnOk result (after_body old body ≡ Some new)
+  pub refused : result ≡ Err fault.Refused → after_body old body ≡ None
 
 -- values make no row, at this column, or memory is wanting
 abbrev pub IsBadRow : Option ℕ → Refusal → Type 0
@@ -69,3 +69,13 @@ IsBadRow bad why = ((column : ℕ) × (bad ≡ Some column) × (why ≡ refusal.
 -- a block's record makes no row, the one of this number, or memory is wanting
 abbrev pub IsBadRecord : Result (List Row) ℕ → Refusal → Type 0
 IsBadRecord rows why = ((n : ℕ) × (rows ≡ Err n) × (why ≡ refusal.BadCsv n)) ⊎ (why ≡ refusal.Memory)
+
+-- why a record isn't taken that is refused so
+abbrev pub fault_of : Refusal → ReplayFault
+fault_of refusal.Memory = fault.Memory
+fault_of _ = fault.Refused
+
+-- why a journal can't be read on at a gate
+abbrev pub error_at : ℕ → ReplayFault → JournalError
+error_at gate fault.Refused = error_of.NotAJournal gate
+error_at gate fault.Memory = error_of.Memory

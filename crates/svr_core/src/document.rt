@@ -75,7 +75,7 @@ impl Document {
 }
 
 /// The id of a row, which an `i64` holds.
-fn id_in(row: &Row) -> DocId
+pub fn id_in(row: &Row) -> DocId
     requires { HasId row.now }
     ensures value { result ≡ id_of row.now }
     ensures within { result < 2 ^ 63 }

@@ -1,4 +1,4 @@
-//! What is served: a schema, the rows of its tables, and the replies to requests over them.
+//! What is served: a schema and the rows of its tables; what requests come to over them, and what a journal's records give again.
 #![tactic(auto)]
 
 mod catalog;
@@ -6,7 +6,9 @@ mod contents;
 mod document;
 mod plan;
 mod refusals;
+mod replay;
 mod search;
 mod served;
 
+pub use crate::plan::{Edit, Entry, Plan};
 pub use crate::served::Core;

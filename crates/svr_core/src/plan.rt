@@ -8,8 +8,15 @@ use svr_schema::Schema;
 pub enum Plan {
     /// The answer to a search.
     Answer(Answer),
-    /// What is to be changed.
-    Edit(Edit),
+    /// A change of what is served, and its record.
+    Change(Entry),
+}
+
+/// A change that may be made, and the body of the record that a journal keeps of it.
+#[derive(Drop)]
+pub struct Entry {
+    pub edit: Edit,
+    pub body: Items<u8>,
 }
 
 /// A change of what is served.

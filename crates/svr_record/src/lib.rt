@@ -14,4 +14,4 @@ mod write;
 pub use fault::RecordFault;
 pub use read::read_record;
 pub use record::{Record, TermPages};
-pub use write::{write_record, write_record_into};
+pub use write::{write_change, write_load, write_record, write_record_into, write_schema};

@@ -31,7 +31,7 @@ pub data Wanted : Type 0 where
 
 -- a request that was read
 abbrev pub seen : Request → Wanted
-seen (request.Schema value) = schema (view value)
+seen (request.Schema s) = schema (view s.value)
 seen (request.Insert table row) = insert table row
 seen (request.Update table row) = update table row
 seen (request.Delete table id) = delete table id

@@ -14,4 +14,4 @@ pub use print::print_reply;
 pub use read::read_request;
 pub use refusal::Refusal;
 pub use reply::{Answer, Fault, Reply};
-pub use request::{Asked, HITS_BY_DEFAULT, Request};
+pub use request::{Asked, HITS_BY_DEFAULT, Request, SchemaValue};

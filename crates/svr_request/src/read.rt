@@ -1,10 +1,12 @@
-ghost use Rattle.std.specs.Prelude.{◌≡◌, IfOk, ok_or, option_map};
+ghost use Rattle.std.specs.Prelude.{◌≡◌, ◌≤◌, IfOk, ok_or, option_map};
+ghost use Rattle.serde_json.specs.Data.{depth};
+ghost use Rattle.serde_json.specs.Read.{max_depth};
 ghost use Rattle.serde_json.specs.View.{view};
 ghost use Rattle.svr_request.specs.Requests.{asked_of, block_in, block_of, bytes_in, delete_request, deleted_id, header_in, insert_request, k_in, load_request, lone_request, merge_slice_request, mode_in, request_of, schema_request, search_request, seen, seen_or_refused, slice_terms, table_and_row_in, update_request};
 
 use crate::members::{take_member, take_table_and_row, take_text};
 use crate::refusal::Refusal;
-use crate::request::{Asked, HITS_BY_DEFAULT, Request};
+use crate::request::{Asked, HITS_BY_DEFAULT, Request, SchemaValue};
 use serde_json::Value;
 use std::alloc::Global;
 use svr_edge::{Items, Memory, Text};
@@ -80,13 +82,14 @@ fn read_k(value: Option<&Value>) -> Option<i128>
 }
 
 fn schema_request(value: Value) -> Option<Request>
+    requires { depth (view value) ≤ max_depth }
     ensures { option_map seen result ≡ schema_request (view value) }
 {
     if !has_only(&value, &["op", "schema"]) {
         return None;
     }
-    let schema = take_member(value, "schema")?;
-    Some(Request::Schema(schema))
+    let value = take_member(value, "schema")?;
+    Some(Request::Schema(SchemaValue { value }))
 }
 
 /// The table and the row of an `insert` or an `update`.
@@ -180,6 +183,7 @@ fn or_bad_shape(request: Option<Request>) -> Result<Request, Refusal>
 
 #[tactic(auto, unfolding(crate::specs::Requests::asked_of))]
 fn request_in(alloc: Global, value: Value) -> Result<Result<Request, Refusal>, Memory>
+    requires { depth (view value) ≤ max_depth }
     ensures { IfOk result (λ asked. seen_or_refused asked ≡ asked_of (view value)) }
 {
     match text_at(&value, "op") {

@@ -1,3 +1,8 @@
+ghost use Rattle.std.specs.Prelude.{◌≤◌};
+ghost use Rattle.serde_json.specs.Data.{depth};
+ghost use Rattle.serde_json.specs.Read.{max_depth};
+ghost use Rattle.serde_json.specs.View.{view};
+
 use crate::refusal::Refusal;
 use serde_json::Value;
 use svr_edge::{Items, Text};
@@ -16,11 +21,18 @@ pub struct Asked {
     pub request: Result<Request, Refusal>,
 }
 
+/// A value that is given as a schema. It is part of a line that was read as JSON, and so its text can be read again.
+#[derive(Drop)]
+pub struct SchemaValue {
+    pub value: Value,
+    ghost nests: { depth (view value) ≤ max_depth },
+}
+
 /// What a line asks for. Tables go by their names.
 #[derive(Drop)]
 pub enum Request {
     /// To take a value as the schema.
-    Schema(Value),
+    Schema(SchemaValue),
     /// To add a row.
     Insert { table: Text, row: Items<Given> },
     /// To put a row in place of the one that has its id.

@@ -1,11 +1,11 @@
 -- The rules of a schema, each over the whole value, and the schema that a value says.
-use Rattle.std.specs.Prelude.{ℕ, ◌&&◌, Bool, ℤ, pos, List, [], ◌∷◌, length}
+use Rattle.std.specs.Prelude.{◌≡◌, ℕ, ◌&&◌, Bool, true, false, ℤ, pos, List, [], ◌∷◌, length}
 use Rattle.std.specs.Prelude.{map, nat_le, codes, if◌then◌else◌, Option, Some, None, Result, Ok, Err}
 use Rattle.std.specs.List.{list_all}
 use Rattle.std.specs.Str.{bytes_eq}
 use Rattle.serde_json.specs.Data.{Data}
 use Rattle.serde_json.specs.Find.{get}
-use Rattle.serde_json.specs.Written.{compact_text}
+use Rattle.serde_json.specs.Written.{compact_text, has_float}
 use Rattle.svr_json.specs.Parts.{◌>>=◌, has_members, only_if}
 use Rattle.svr_schema.specs.declared.method.MethodSpec.{MethodSpec}
 use Rattle.svr_schema.specs.declared.method.MethodSpec.TheVariants as method
@@ -108,6 +108,11 @@ method_in d = do
 -- and the text that is written for the value has at most 1,048,576 bytes
 abbrev pub has_short_text : Data → Bool
 has_short_text d = nat_le (length (compact_text d)) 1048576
+
+-- the text that is written for the value is determined by it, and isn't too long
+pub record IsWritable (d : Data) : Type 0 where
+  pub plain : has_float d ≡ false
+  pub short : has_short_text d ≡ true
 
 -- ---- all rules, the first that fails before the others
 

@@ -5,7 +5,7 @@ ghost use Rattle.svr_schema.specs.Components.{component_in};
 ghost use Rattle.svr_schema.specs.Lawful.{IsSchema};
 ghost use Rattle.svr_schema.specs.Lookups.{table_at};
 ghost use Rattle.svr_schema.specs.Parts.{elements_at};
-ghost use Rattle.svr_schema.specs.Rules.{divisor_in, has_short_text, schema_in, text_place};
+ghost use Rattle.svr_schema.specs.Rules.{IsWritable, divisor_in, has_short_text, schema_in, text_place};
 ghost use Rattle.svr_schema.specs.Steps.{AreFew};
 
 use crate::component::Component;
@@ -93,6 +93,9 @@ fn has_short_text(alloc: Global, value: &Value) -> Result<bool, Memory>
 pub fn read_schema(alloc: Global, value: &Value) -> Result<Schema, SchemaError>
     ensures schema { IfOk result (λ schema. schema_in (view value.now) ≡ Ok schema) }
     ensures lawful { IfOk result IsSchema }
+
+    // The text that is written for the value can be kept in its place.
+    ensures text { IfOk result (λ _. IsWritable (view value.now)) }
 
     // Each element of the components makes one, and none is passed over.
     ensures complete { IfOk result (λ schema. map Some schema.components

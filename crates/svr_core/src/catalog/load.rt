@@ -1,17 +1,21 @@
 //! All rows of a block, or none.
-ghost use Rattle.std.specs.Prelude.{◌≡◌, ◌≤◌, length, vec_len, Some, Ok, IfOk, IfErr};
+ghost use Rattle.std.specs.Prelude.{◌≡◌, ◌<◌, ◌≤◌, length, None, Some, IfOk, IfErr, OnOk};
 ghost use Rattle.svr_csvload.specs.Blocks.{AreRows, rows_in_block};
 ghost use Rattle.svr_rows.specs.Rows.{kinds_of};
 ghost use Rattle.svr_schema.specs.Lawful.{IsTable};
-ghost use Rattle.svr_core.specs.Outcomes.{load_outcome, rows_outcome};
-ghost use Rattle.svr_core.specs.Steps.{IsBadRecord, Plans};
+ghost use Rattle.svr_record.specs.declared.record.Record.{Record};
+ghost use Rattle.svr_rows.specs.Changes.{load_refusal};
+ghost use Rattle.svr_core.specs.Outcomes.{block_outcome, load_outcome, placed_outcome, rows_outcome};
+ghost use Rattle.svr_core.specs.Plans.{MayRefuse, Plans};
+ghost use Rattle.svr_core.specs.Steps.{Edits, IsBadRecord};
 
 use crate::catalog::Catalog;
-use crate::plan::{Edit, Plan};
+use crate::plan::{Edit, Entry, Plan};
 use crate::refusals::{refused_block, refused_load};
 use std::alloc::Global;
 use svr_csvload::read_block;
 use svr_edge::Items;
+use svr_record::write_load;
 use svr_request::Refusal;
 use svr_rows::Row;
 use svr_schema::Table;
@@ -29,23 +33,62 @@ impl Catalog {
         ensures { Plans (load_outcome self.now name.now header block.now) (Some self.now) result }
     {
         let table = self.table(name)?;
-        let rows = block_rows(alloc, self.declared(table), header, block)?;
-        self.plan_rows(alloc, table, rows)
+        let edit = self.edit_load(alloc, table, header, block)?;
+        let body = write_load(alloc, table, header, block)?;
+        Ok(Plan::Change(Entry {
+            edit,
+            body: Items::from_vec(body),
+        }))
     }
 
-    /// To insert all rows into a table, unless one is refused.
-    fn plan_rows(&self, alloc: Global, table: u8, rows: Vec<Row>) -> Result<Plan, Refusal>
-        requires { vec_len rows ≤ 8388608 }
-        ensures { Plans (rows_outcome self.now table (Ok rows.items)) (Some self.now) result }
+    /// The rows of a block for the table at a place, if there is one.
+    pub fn edit_placed(
+        &self,
+        alloc: Global,
+        table: u8,
+        header: bool,
+        block: &[u8],
+    ) -> Result<Edit, Refusal>
+        requires { length block.now ≤ 8388608 }
+        ensures { Edits (placed_outcome self.now table header block.now) (Some self.now) result }
+    {
+        if table as usize >= self.schema.tables.len() {
+            return Err(Refusal::NoTable);
+        }
+        self.edit_load(alloc, table, header, block)
+    }
+
+    /// The rows of a block that are to be inserted into a table, all or none.
+    fn edit_load(
+        &self,
+        alloc: Global,
+        table: u8,
+        header: bool,
+        block: &[u8],
+    ) -> Result<Edit, Refusal>
+        requires there { table < length self.now.schema.tables }
+        requires few { length block.now ≤ 8388608 }
+        ensures { Edits (block_outcome self.now table header block.now) (Some self.now) result }
+    {
+        let rows = block_rows(alloc, self.declared(table), header, block)?;
+        self.check_rows(alloc, table, rows.as_slice())?;
+        Ok(Edit::Load {
+            table,
+            rows: Items::from_vec(rows),
+        })
+    }
+
+    /// Tests that all rows may be inserted into a table, one after the other.
+    fn check_rows(&self, alloc: Global, table: u8, rows: &[Row]) -> Result<(), Refusal>
+        requires { length rows.now ≤ 8388608 }
+        ensures ok { OnOk result (load_refusal self.now.tables table rows.now ≡ None) }
+        ensures refused { IfErr result (λ why. (load : Record) → MayRefuse (rows_outcome self.now table load rows.now) why) }
     {
         self.contents
             .tables
-            .check_all(alloc, table, rows.as_slice())
+            .check_all(alloc, table, rows)
             .map_err(refused_load)?;
-        Ok(Plan::Edit(Edit::Load {
-            table,
-            rows: Items::from_vec(rows),
-        }))
+        Ok(())
     }
 }
 

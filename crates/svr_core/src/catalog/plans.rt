@@ -1,19 +1,24 @@
 //! What is to be done for a request, or why it is refused. Nothing is changed.
-ghost use Rattle.std.specs.Prelude.{◌≡◌, ◌≤◌, map, length, None, Some, IfOk, IfErr, OnOk};
+ghost use Rattle.std.specs.Prelude.{◌≡◌, ◌<◌, ◌≤◌, ◌^◌, map, length, None, Some, IfOk, IfErr, IfSome, OnOk};
+ghost use Rattle.svr_record.specs.Limits.{ChangeFits};
+ghost use Rattle.svr_rows.specs.Changes.{refusal_of};
 ghost use Rattle.svr_rows.specs.Rows.{bad_column, cell_in, kinds_of};
 ghost use Rattle.svr_schema.specs.Lawful.{IsTable};
 ghost use Rattle.svr_tokens.specs.Tokens.{tokens_of};
 ghost use Rattle.svr_core.specs.Outcomes.{change_outcome, delete_outcome, insert_outcome, row_of, update_outcome};
-ghost use Rattle.svr_core.specs.Outcomes.{found, k_of, search_outcome};
-ghost use Rattle.svr_core.specs.Steps.{IsBadRow, MayRefuse, Plans};
+ghost use Rattle.svr_core.specs.Outcomes.{found, k_of, refused, search_outcome};
+ghost use Rattle.svr_core.specs.Plans.{MayRefuse, Plans};
+ghost use Rattle.svr_core.specs.Steps.{DeletesId, Edits, IsBadRow};
 
 use crate::catalog::Catalog;
-use crate::plan::{Edit, Plan};
+use crate::document::id_in;
+use crate::plan::{Edit, Entry, Plan};
 use crate::refusals::{refused_query, refused_row};
 use crate::search::search;
 use std::alloc::Global;
 use svr_edge::Items;
 use svr_num::{DocId, Mode};
+use svr_record::write_change;
 use svr_request::{Answer, Refusal};
 use svr_rows::{Change, Given, Row, TypedRefusal, typed_row};
 use svr_schema::Table;
@@ -33,7 +38,7 @@ impl Catalog {
         ensures { Plans (insert_outcome self.now name.now given) (Some self.now) result }
     {
         let change = self.insertion(alloc, name, given)?;
-        self.plan_change(change)
+        self.plan_change(alloc, change)
     }
 
     /// To put the row that values make in the place of the one that has its id.
@@ -46,26 +51,60 @@ impl Catalog {
         ensures { Plans (update_outcome self.now name.now given) (Some self.now) result }
     {
         let change = self.replacement(alloc, name, given)?;
-        self.plan_change(change)
+        self.plan_change(alloc, change)
     }
 
     /// To take out the row with the id.
-    pub fn plan_delete(&self, name: &str, id: DocId) -> Result<Plan, Refusal>
+    pub fn plan_delete(&self, alloc: Global, name: &str, id: DocId) -> Result<Plan, Refusal>
         ensures { Plans (delete_outcome self.now name.now id) (Some self.now) result }
     {
         let table = self.table(name)?;
-        self.plan_change(Change::Delete { table, id })
+        let id = self.row_id(table, id).ok_or(Refusal::NoRow)?;
+        self.plan_change(alloc, Change::Delete { table, id })
+    }
+
+    /// The id as the row has it that stands at it.
+    fn row_id(&self, table: u8, id: DocId) -> Option<DocId>
+        requires { table < length self.now.schema.tables }
+        ensures same { IfSome result (λ n. n ≡ id) }
+        ensures within { IfSome result (λ n. n < 2 ^ 63) }
+        ensures none { result ≡ None → change_outcome self.now (Change.Delete table id) ≡ refused Refusal.NoRow }
+    {
+        self.contents.tables.row(table, id).map(id_in)
     }
 
     /// To make a change, unless a row refuses it.
-    fn plan_change(&self, change: Change) -> Result<Plan, Refusal>
+    fn plan_change(&self, alloc: Global, change: Change) -> Result<Plan, Refusal>
+        requires { DeletesId change }
         ensures { Plans (change_outcome self.now change) (Some self.now) result }
+    {
+        self.check(&change)?;
+        let body = write_change(alloc, &change)?;
+        Ok(Plan::Change(Entry {
+            edit: Edit::Change(change),
+            body: Items::from_vec(body),
+        }))
+    }
+
+    /// A change, unless a row refuses it.
+    pub fn edit_change(&self, change: Change) -> Result<Edit, Refusal>
+        ensures { Edits (change_outcome self.now change) (Some self.now) result }
+    {
+        self.check(&change)?;
+        Ok(Edit::Change(change))
+    }
+
+    /// Tests that no row refuses a change.
+    fn check(&self, change: &Change) -> Result<(), Refusal>
+        ensures ok { OnOk result (refusal_of self.now.tables change.now ≡ None) }
+        ensures fits { OnOk result (DeletesId change.now → ChangeFits change.now) }
+        ensures refused { IfErr result (MayRefuse (change_outcome self.now change.now)) }
     {
         self.contents
             .tables
-            .check(&change)
+            .check(change)
             .map_err(|why| refused_row(None, why))?;
-        Ok(Plan::Edit(Edit::Change(change)))
+        Ok(())
     }
 
     /// The insert of a row that values make.

@@ -126,6 +126,14 @@ returns-clause-schema c =
     (divisor-kept d n divisor) in
     schema_in-ok d p n m (before k) divisor (sym c.in-Some-read_method.ensures) short ∙ ap (λ s. Ok s) (sym is)
 
+pub returns-clause-text : goal.returns-clause-text
+returns-clause-text c =
+    let b = before (goal.at.returns-clause-text c).In_ok-components in
+    record {
+      plain = schema_no_float _ _ _ _ b (sym c.in-Some-read_divisor.ensures) (sym c.in-Some-read_method.ensures);
+      short = sym c.in_ok-has_short_text.ensures ∙ c.if-not-branch.false;
+    }
+
 pub returns-clause-complete : goal.returns-clause-complete
 returns-clause-complete c =
     let d = view c.args.value.now in

@@ -1,0 +1,110 @@
+ghost use Rattle.std.specs.Prelude.{◌≡◌, ◌+◌, ◌<◌, ◌≤◌, ◌^◌, ℕ, List, None, Err, IfOk, OnOk};
+ghost use Rattle.svr_edge.specs.Disk.{Reads};
+ghost use Rattle.svr_journal.specs.Causes.{ReadsAlone};
+ghost use Rattle.svr_record.specs.Grammar.{record_in};
+ghost use Rattle.svr_record.specs.Limits.{IsRecord};
+ghost use Rattle.svr_core.specs.Replay.{IsAtFault, Replays};
+ghost use Rattle.svr_core.specs.Steps.{TakesBody, error_at};
+
+use crate::served::Core;
+use std::alloc::Global;
+use svr_edge::{Disk, Memory};
+use svr_journal::{Journal, JournalError, ReadAhead};
+use svr_record::{Record, RecordFault, read_record};
+use svr_request::Refusal;
+
+/// Why a record that is read again isn't taken.
+#[derive(Clone, Copy, Debug, PartialEq, Eq)]
+pub(crate) enum ReplayFault {
+    /// The body says no record, or one that isn't accepted in its place.
+    Refused,
+    Memory,
+}
+
+impl From<Memory> for ReplayFault {
+    ghost use Rattle.std.specs.Prelude.{◌≡◌};
+    ghost use Rattle.svr_core.specs.declared.replay.ReplayFault.TheVariants as fault;
+
+    ghost from_gives = { λ _ why. why ≡ fault.Memory };
+
+    fn from(_memory: Memory) -> ReplayFault {
+        ReplayFault::Memory
+    }
+}
+
+impl From<Refusal> for ReplayFault {
+    ghost use Rattle.std.specs.Prelude.{◌≡◌};
+    ghost use Rattle.svr_core.specs.Steps.{fault_of};
+
+    ghost from_gives = { λ refusal why. why ≡ fault_of refusal };
+
+    fn from(refusal: Refusal) -> ReplayFault {
+        match refusal {
+            Refusal::Memory => ReplayFault::Memory,
+            _ => ReplayFault::Refused,
+        }
+    }
+}
+
+impl ReplayFault {
+    /// The error of a journal whose record at this gate isn't taken.
+    fn at(self, gate: u64) -> JournalError
+        ensures { result ≡ error_at gate self }
+    {
+        match self {
+            ReplayFault::Refused => JournalError::NotAJournal { at: gate },
+            ReplayFault::Memory => JournalError::Memory,
+        }
+    }
+}
+
+/// The record that a body says.
+fn record_of(alloc: Global, body: &[u8]) -> Result<Record, ReplayFault>
+    ensures found { IfOk result (λ entry. record_in body.now ≡ Some entry) }
+    ensures lawful { IfOk result IsRecord }
+    ensures none { result ≡ Err ReplayFault.Refused → record_in body.now ≡ None }
+{
+    match read_record(alloc, body) {
+        Ok(entry) => Ok(entry),
+        Err(RecordFault::NotARecord) => Err(ReplayFault::Refused),
+        Err(RecordFault::Memory) => Err(ReplayFault::Memory),
+    }
+}
+
+impl Core {
+    /// Makes the change of the record that a body says. After `Err` the core is spent.
+    fn take(&mut self, alloc: Global, body: &[u8]) -> Result<(), ReplayFault>
+        requires { self.old.changes + 1 < 2 ^ 64 }
+        ensures { TakesBody self.old self.new body.now result }
+    {
+        let entry = record_of(alloc, body)?;
+        let edit = self.edit_of(alloc, entry)?;
+        self.make(alloc, edit)?;
+        Ok(())
+    }
+
+    /// What the records of a journal give, from its first gate on, which is read to its closed gate. A record that isn't accepted in
+    /// its place is answered as `NotAJournal` at its gate. After `Err` the journal is spent.
+    pub fn replay<D: Disk>(
+        alloc: Global,
+        disk: &mut D,
+        journal: &mut Journal,
+    ) -> Result<Core, JournalError>
+        requires { journal.old ≡ record { end = 8; size = (D.view disk.old).size } }
+        ensures ok { IfOk result (λ core. Replays (D.view disk.old) journal.new.end core) }
+        ensures fault { (at : ℕ) (bytes : List ℕ) → result ≡ Err (JournalError.NotAJournal at) → Reads (D.view disk.old) bytes → IsAtFault bytes at }
+        ensures inside { OnOk result (journal.new.end < (D.view disk.new).size) }
+        // Each record takes more than one byte.
+        ensures numbers { IfOk result (λ core. core.changes < journal.new.end) }
+        ensures reads { ReadsAlone (D.view disk.old) (D.view disk.new) result }
+    {
+        let mut core = Core::empty();
+        let mut ahead = ReadAhead::new(alloc);
+        while let Some(address) = journal.next(disk, &mut ahead)? {
+            let gate = address - 5;
+            core.take(alloc, ahead.body())
+                .map_err(|fault| fault.at(gate))?;
+        }
+        Ok(core)
+    }
+}

@@ -1,0 +1,3 @@
+pub mod Opening
+pub mod Store
+pub mod Submitting

@@ -1,0 +1,28 @@
+-- Opening a store.
+use Rattle.std.specs.Prelude.{◌≡◌, ◌≢◌, ◌⊎◌, ℕ, List, take, Option, Some, Result, Ok, Err, ⊤}
+use Rattle.svr_edge.specs.Disk.{DiskView, Reads}
+use Rattle.svr_journal.specs.declared.faults.JournalError.{JournalError}
+use Rattle.svr_journal.specs.declared.faults.JournalError.TheVariants.{Device, NotAJournal, Memory}
+use Rattle.svr_journal.specs.File.{StandsFor, magic}
+use Rattle.svr_journal.specs.Opening.{opened_bytes}
+use Rattle.svr_core.specs.Replay.{IsAtFault, replayed}
+use Rattle.svr_core.specs.State.{State, empty}
+use Rattle.svr_store.specs.Store.{Keeps, Serves, StoreValue}
+
+-- the disk stood for these records, or it was empty and there is none
+pub record StoodFor (disk : DiskView) (bodies : List (List ℕ)) : Type 0 where
+  pub bytes : List ℕ
+  pub reads : Reads disk bytes
+  pub stands : StandsFor (opened_bytes bytes) bodies
+
+-- a store was opened: it serves what the records that were read give
+pub record Opens (old new : DiskView) (store : StoreValue) : Type 0 where
+  pub state : State
+  pub gives : replayed empty state.bodies ≡ Some state.served
+  pub serves : Serves store state
+  -- where the disk stood for records, they are these, and it keeps them
+  pub found : (bodies : List (List ℕ)) → StoodFor old bodies → (bodies ≡ state.bodies) × Keeps new state.bodies
+
+-- the bytes are no journal, or have one at fault at that place
+abbrev pub IsNoJournal : List ℕ → ℕ → Type 0
+IsNoJournal bytes at = ((at ≡ 0) × (take 8 bytes ≢ magic)) ⊎ ((take 8 bytes ≡ magic) × IsAtFault bytes at)

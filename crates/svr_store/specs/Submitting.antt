@@ -1,0 +1,44 @@
+-- What the answer to a request does to a store and its disk.
+use Rattle.std.specs.Prelude.{◌≡◌, ◌≤◌, ℕ, List, ◌++◌, false, Option, Some, None}
+use Rattle.svr_edge.specs.Causes.{Rose}
+use Rattle.svr_edge.specs.Disk.{DiskView, Leaves}
+use Rattle.svr_journal.specs.File.{StandsForSome}
+use Rattle.svr_request.specs.declared.reply.Fault.TheVariants as fault
+use Rattle.svr_request.specs.declared.reply.Reply.{Reply}
+use Rattle.svr_request.specs.declared.reply.Reply.TheVariants.{Faulted}
+use Rattle.svr_request.specs.Requests.{Submitted}
+use Rattle.svr_core.specs.Replay.{replayed}
+use Rattle.svr_core.specs.Run.{IsTurn, Turn, closes, is_in_doubt, state_then}
+use Rattle.svr_core.specs.State.{Served, State}
+use Rattle.svr_store.specs.declared.store.Closed.{Closed}
+use Rattle.svr_store.specs.declared.store.Closed.TheVariants as closed
+use Rattle.svr_store.specs.Store.{Keeps, Serves, StoreValue}
+
+-- one turn, from a state on
+pub record Submits (old new : DiskView) (after : StoreValue) (s : State) (request : Submitted) (reply : Reply) : Type 0 where
+  pub turn : Turn
+  pub asked : turn.request ≡ request
+  pub told : turn.reply ≡ reply
+  pub is : IsTurn s turn
+  pub serves : closes reply ≡ false → Serves after (state_then s turn)
+  -- its records are accepted when they are read again, and give what is served
+  pub next : Served
+  pub replays : replayed s.served turn.added ≡ Some next
+  pub same : closes reply ≡ false → next ≡ (state_then s turn).served
+  -- whenever a crash comes, the records from before are there, with some of those of the turn
+  pub any_moment : Keeps old s.bodies → Leaves old new (StandsForSome s.bodies turn.added)
+  -- and afterwards all of them are, unless a write failed
+  pub keeps : Keeps old s.bodies → is_in_doubt reply ≡ false → Keeps new (s.bodies ++ turn.added)
+
+-- a reply tells a failed write only where the count of failed writes and syncs rose; nothing was read
+pub record SubmitCauses (old new : DiskView) (reply : Reply) : Type 0 where
+  pub write : reply ≡ Faulted fault.Write → Rose old.write_faults new.write_faults
+  pub writes : old.write_faults ≤ new.write_faults
+  pub reads : new.read_faults ≡ old.read_faults
+  pub trace : new.trace ≡ old.trace
+
+-- why nothing more is answered after a reply, if so
+abbrev pub closed_by : Reply → Option Closed
+closed_by (Faulted fault.Write) = Some closed.Write
+closed_by (Faulted fault.Memory) = Some closed.Memory
+closed_by _ = None

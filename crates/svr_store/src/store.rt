@@ -1,0 +1,134 @@
+ghost use Rattle.std.specs.Prelude.{false, ◌≡◌, ◌<◌, ◌≤◌, ℕ, List, length, None, Some, Err, IfOk, OnOk};
+ghost use Rattle.svr_edge.specs.Disk.{IsSettled, IsTornImage, Leaves, Reads, Stays};
+ghost use Rattle.svr_journal.specs.Causes.{OpenCauses};
+ghost use Rattle.svr_journal.specs.File.{IsBody};
+ghost use Rattle.svr_journal.specs.Opening.{opened_bytes};
+ghost use Rattle.svr_request.specs.Replies.{IsPrintable};
+ghost use Rattle.svr_request.specs.Requests.{Submitted, seen_or_refused, with_block};
+ghost use Rattle.svr_core.specs.Edits.{Accepts};
+ghost use Rattle.svr_core.specs.Outcomes.{outcome_of};
+ghost use Rattle.svr_core.specs.Plans.{IsEntry};
+ghost use Rattle.svr_core.specs.Run.{closes};
+ghost use Rattle.svr_core.specs.State.{State};
+ghost use Rattle.svr_store.specs.Opening.{IsNoJournal, Opens};
+ghost use Rattle.svr_store.specs.Store.{Serves};
+ghost use Rattle.svr_store.specs.Submitting.{SubmitCauses, Submits, closed_by};
+
+use std::alloc::Global;
+use std::marker::Model;
+use svr_core::{Core, Edit, Entry, Plan};
+use svr_edge::{Disk, Memory};
+use svr_journal::{AppendFault, Frame, Journal, JournalError};
+use svr_request::{Fault, Refusal, Reply, Request};
+
+/// Why a store answers nothing more.
+#[derive(Clone, Copy, Debug, PartialEq, Eq)]
+pub enum Closed {
+    /// A write or a sync of a record failed. The record may be on the disk or not.
+    Write,
+    /// Memory was wanting to make a change whose record is on the disk.
+    Memory,
+}
+
+/// What is served, and the place in the journal that keeps it.
+#[derive(Drop)]
+pub struct Store {
+    core: Core,
+    journal: Journal,
+    closed: Option<Closed>,
+}
+
+impl Model for Store {
+    ghost use Rattle.std.specs.Prelude.{◌<◌};
+    ghost use Rattle.svr_store.specs.Store.{StoreValue};
+
+    ghost Value = { StoreValue };
+
+    ghost view = { λ s. record { served = s.core; end = s.journal.end; closed = s.closed } };
+
+    ghost invariant = { λ s. s.core.changes < s.journal.end };
+}
+
+impl Store {
+    /// Opens the store of a disk: reads all records of its journal. An empty disk gets a journal without a record.
+    pub fn open_store<D: Disk>(alloc: Global, disk: &mut D) -> Result<Store, JournalError>
+        ensures ok { IfOk result (Opens (D.view disk.old) (D.view disk.new)) }
+        ensures fault { (at : ℕ) (bytes : List ℕ) → result ≡ Err (JournalError.NotAJournal at) → Reads (D.view disk.old) bytes
+            → IsNoJournal (opened_bytes bytes) at }
+        ensures open { IfOk result (λ store. (store.closed ≡ None) × (store.end < (D.view disk.new).size)) }
+        ensures settled { OnOk result (IsSettled (D.view disk.new)) }
+        ensures stays { 0 < (D.view disk.old).size → Stays (D.view disk.old) (D.view disk.new) }
+        // Of an empty disk a crash may leave anything in the first nine bytes.
+        ensures images { Leaves (D.view disk.old) (D.view disk.new) (IsTornImage (D.view disk.old) 0 9) }
+        ensures causes { OpenCauses (D.view disk.old) (D.view disk.new) result }
+    {
+        let mut journal = Journal::open_journal(disk)?;
+        let core = Core::replay(alloc, disk, &mut journal)?;
+        Ok(Store {
+            core,
+            journal,
+            closed: None,
+        })
+    }
+
+    /// Why nothing more is answered; `None` where requests may be submitted.
+    pub fn closed(&self) -> Option<Closed>
+        ensures { result ≡ self.now.closed }
+    {
+        self.closed
+    }
+
+    /// Answers a request, with the block that comes with it. A change that is accepted is planned, its record is appended to the
+    /// disk's journal and synced, and then it is made. Want of memory before the record is written changes nothing; after it, and
+    /// after a failed write, the store is closed.
+    pub fn submit<D: Disk>(
+        &mut self,
+        alloc: Global,
+        disk: &mut D,
+        request: Result<Request, Refusal>,
+        block: &[u8],
+    ) -> Reply
+        requires open { self.old.closed ≡ None }
+        requires inside { self.old.end < (D.view disk.old).size }
+        requires few { length block.now ≤ 8388608 }
+        ensures submits { (s : State) → Serves self.old s
+            → Submits (D.view disk.old) (D.view disk.new) self.new s (with_block (seen_or_refused request) block.now) result }
+        ensures printable { IsPrintable result }
+        ensures closed { self.new.closed ≡ closed_by result }
+        ensures inside { closes result ≡ false → self.new.end < (D.view disk.new).size }
+        ensures causes { SubmitCauses (D.view disk.old) (D.view disk.new) result }
+    {
+        match self.core.plan(alloc, request, block) {
+            Ok(Plan::Answer(answer)) => Reply::Found(answer),
+            Ok(Plan::Change(entry)) => self.commit(alloc, disk, entry),
+            Err(why) => Reply::Refused(why),
+        }
+    }
+
+    /// Appends the record of a change, and makes the change.
+    fn commit<D: Disk>(&mut self, alloc: Global, disk: &mut D, entry: Entry) -> Reply
+        requires open { self.old.closed ≡ None }
+        requires inside { self.old.end < (D.view disk.old).size }
+        requires accepted { Accepts self.old.served.catalog entry.edit }
+        requires size { IsBody entry.body }
+        ensures submits { (s : State) (request : Submitted) → Serves self.old s
+            → IsEntry (outcome_of s.served request) s.served.catalog entry
+            → Submits (D.view disk.old) (D.view disk.new) self.new s request result }
+        ensures printable { IsPrintable result }
+        ensures closed { self.new.closed ≡ closed_by result }
+        ensures inside { closes result ≡ false → self.new.end < (D.view disk.new).size }
+        ensures causes { SubmitCauses (D.view disk.old) (D.view disk.new) result }
+    {
+        let Ok(frame) = Frame::new(alloc, entry.body.as_slice()) else {
+            return Reply::Refused(Refusal::Memory);
+        };
+        match self.journal.append(disk, &frame) {
+            Ok(_) => self.make(alloc, entry.edit),
+            Err(AppendFault::Full) => Reply::Refused(Refusal::JournalFull),
+            Err(AppendFault::Write) => {
+                self.closed = Some(Closed::Write);
+                Reply::Faulted(Fault::Write)
+            }
+        }
+    }
+}
