@@ -1,5 +1,5 @@
 -- What stands at a gate, whatever the bytes are.
-use Rattle.std.specs.Prelude.{◌≡◌, ◌≤◌, ◌<◌, ◌+◌, ◌==◌, ◌&&◌, ℕ, nat_le, if◌then◌else◌, List, [], ◌∷◌, length, take, drop, Option, Some, None, Result, Ok, Err, ⊤}
+use Rattle.std.specs.Prelude.{◌≡◌, ◌≤◌, ◌<◌, ◌+◌, ◌==◌, ◌&&◌, Bool, false, ℕ, nat_le, nat_lt, if◌then◌else◌, List, [], ◌∷◌, length, take, drop, Option, Some, None, Result, Ok, Err, ⊤}
 use Rattle.std.specs.Int.{from_be_bytes, w32}
 use Rattle.svr_journal.specs.declared.journal.Found.{Found}
 use Rattle.svr_journal.specs.declared.journal.Found.TheVariants.{Shut, Broken, Record}
@@ -15,9 +15,14 @@ pub data Gate : Type 0 where
 abbrev pub body_of : ℕ → List ℕ → Gate
 body_of count rest = if nat_le 1 count && nat_le count 16777216 && nat_le count (length rest) then record_of (take count rest) else broken
 
+-- four bytes stand in front
+abbrev pub has_word : List ℕ → Bool
+has_word (a ∷ b ∷ c ∷ d ∷ rest) = nat_lt a 256 && nat_lt b 256 && nat_lt c 256 && nat_lt d 256
+has_word _ = false
+
 -- the length and the body behind an open gate
 abbrev pub behind_gate : List ℕ → Gate
-behind_gate rest = if nat_le 4 (length rest) then body_of (from_be_bytes w32 (take 4 rest)) (drop 4 rest) else broken
+behind_gate rest = if has_word rest then body_of (from_be_bytes w32 (take 4 rest)) (drop 4 rest) else broken
 
 -- what stands at the first of these bytes
 abbrev pub gate_of : List ℕ → Gate
