@@ -1,3 +1,4 @@
+pub mod Making
 pub mod Opening
 pub mod Store
 pub mod Submitting

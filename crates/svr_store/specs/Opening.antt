@@ -1,8 +1,6 @@
 -- Opening a store.
-use Rattle.std.specs.Prelude.{◌≡◌, ◌≢◌, ◌⊎◌, ℕ, List, take, Option, Some, Result, Ok, Err, ⊤}
+use Rattle.std.specs.Prelude.{◌≡◌, ◌≢◌, ◌⊎◌, ℕ, List, take, Some}
 use Rattle.svr_edge.specs.Disk.{DiskView, Reads}
-use Rattle.svr_journal.specs.declared.faults.JournalError.{JournalError}
-use Rattle.svr_journal.specs.declared.faults.JournalError.TheVariants.{Device, NotAJournal, Memory}
 use Rattle.svr_journal.specs.File.{StandsFor, magic}
 use Rattle.svr_journal.specs.Opening.{opened_bytes}
 use Rattle.svr_core.specs.Replay.{IsAtFault, replayed}
@@ -20,6 +18,8 @@ pub record Opens (old new : DiskView) (store : StoreValue) : Type 0 where
   pub state : State
   pub gives : replayed empty state.bodies ≡ Some state.served
   pub serves : Serves store state
+  -- the bytes of the disk stood for these records
+  pub stood : (bytes : List ℕ) → Reads old bytes → StandsFor (opened_bytes bytes) state.bodies
   -- where the disk stood for records, they are these, and it keeps them
   pub found : (bodies : List (List ℕ)) → StoodFor old bodies → (bodies ≡ state.bodies) × Keeps new state.bodies
 

@@ -1,5 +1,5 @@
 -- What the answer to a request does to a store and its disk.
-use Rattle.std.specs.Prelude.{◌≡◌, ◌≤◌, ℕ, List, ◌++◌, false, Option, Some, None}
+use Rattle.std.specs.Prelude.{◌≡◌, ◌≤◌, ◌++◌, false, Option, Some, None}
 use Rattle.svr_edge.specs.Causes.{Rose}
 use Rattle.svr_edge.specs.Disk.{DiskView, Leaves}
 use Rattle.svr_journal.specs.File.{StandsForSome}

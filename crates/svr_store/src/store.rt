@@ -1,4 +1,4 @@
-ghost use Rattle.std.specs.Prelude.{false, ◌≡◌, ◌<◌, ◌≤◌, ℕ, List, length, None, Some, Err, IfOk, OnOk};
+ghost use Rattle.std.specs.Prelude.{false, ◌≡◌, ◌<◌, ◌≤◌, ◌+◌, ◌^◌, ℕ, List, length, None, Some, Err, IfOk, OnOk};
 ghost use Rattle.svr_edge.specs.Disk.{IsSettled, IsTornImage, Leaves, Reads, Stays};
 ghost use Rattle.svr_journal.specs.Causes.{OpenCauses};
 ghost use Rattle.svr_journal.specs.File.{IsBody};
@@ -10,6 +10,7 @@ ghost use Rattle.svr_core.specs.Outcomes.{outcome_of};
 ghost use Rattle.svr_core.specs.Plans.{IsEntry};
 ghost use Rattle.svr_core.specs.Run.{closes};
 ghost use Rattle.svr_core.specs.State.{State};
+ghost use Rattle.svr_store.specs.Making.{Makes};
 ghost use Rattle.svr_store.specs.Opening.{IsNoJournal, Opens};
 ghost use Rattle.svr_store.specs.Store.{Serves};
 ghost use Rattle.svr_store.specs.Submitting.{SubmitCauses, Submits, closed_by};
@@ -128,6 +129,22 @@ impl Store {
             Err(AppendFault::Write) => {
                 self.closed = Some(Closed::Write);
                 Reply::Faulted(Fault::Write)
+            }
+        }
+    }
+
+    /// Makes a change whose record is on the disk. Where memory is wanting, the store is closed.
+    fn make(&mut self, alloc: Global, edit: Edit) -> Reply
+        requires accepted { Accepts self.old.served.catalog edit }
+        requires numbered { self.old.served.changes + 1 < self.old.end }
+        requires few { self.old.end ≤ 2 ^ 40 }
+        ensures { Makes self.old self.new edit result }
+    {
+        match self.core.make(alloc, edit) {
+            Ok(()) => Reply::Accepted(self.core.changes()),
+            Err(_) => {
+                self.closed = Some(Closed::Memory);
+                Reply::Faulted(Fault::Memory)
             }
         }
     }

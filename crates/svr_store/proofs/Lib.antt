@@ -1,0 +1,4 @@
+pub mod Opened
+pub mod Silent
+pub mod Appended
+pub mod Kept

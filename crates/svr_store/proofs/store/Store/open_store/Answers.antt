@@ -1,0 +1,30 @@
+use Rattle.std.proofs.Common.{ℕ, List, refl, subst}
+use Rattle.svr_edge.specs.Disk.{Reads}
+use Rattle.svr_journal.specs.File.{StandsFor}
+use Rattle.svr_journal.specs.Opening.{opened_bytes}
+use Rattle.svr_store.proofs.Opened.{found_bodies, keeps, stand_for}
+use Rattle.svr_store.proofs.store.Store.open_store.Goals as goal
+
+pub returns-clause-ok : goal.returns-clause-ok
+returns-clause-ok g c =
+    let mid = g.D.Disk.view c.open_journal.new.disk in
+    let new = g.D.Disk.view c.replay.new.disk in
+    let there = c.in_ok-core.ensures.ok in
+    let end = c.replay.new.journal.end in
+    record {
+      state = record { served = c.in_ok-core.core; bodies = there.bodies };
+      gives = there.gives;
+      serves = record { served = refl; end = there.at_end };
+      stood = λ bytes reads.
+          let now : Reads mid (opened_bytes bytes) = c.in_ok-journal.ensures.content bytes reads in
+          stand_for (opened_bytes bytes) end (there.closed (opened_bytes bytes) now) there.bodies (c.in_ok-journal.ensures.answer bytes reads)
+          (there.gates (opened_bytes bytes) now);
+      found = λ bodies stood.
+          let bytes = opened_bytes stood.bytes in
+          let now : Reads mid bytes = c.in_ok-journal.ensures.content stood.bytes stood.reads in
+          let same = found_bodies bytes end (there.closed bytes now) there.bodies bodies stood.stands (there.gates bytes now) in (
+            same,
+            keeps mid new bytes there.bodies (g.met.D.Disk.laws c.replay.new.disk) c.in_ok-journal.ensures.settled c.in_ok-core.ensures.reads.stays now
+                (subst (λ (bs : List (List ℕ)). StandsFor bytes bs) same stood.stands),
+          );
+    }
