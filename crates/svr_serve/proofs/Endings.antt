@@ -1,149 +1,289 @@
--- What was written and sent in the end, and why it ended so, by how serving ended.
-use Rattle.std.proofs.Common.{◌≡◌, ◌⊎◌, ◌==◌, ◌^◌, ℕ, ◌≤◌, false, List, [], ◌∷◌, ◌++◌, if◌then◌else◌, Option}
-use Rattle.std.proofs.Common.{Some, None, inl, inr, refl, sym, ap, ◌∙◌, subst, arith, append-nil, Contains}
+-- What was written, stored and sent in the end, and why it ended so, by how serving ended.
+use Rattle.std.proofs.Common.{◌≡◌, ◌⊎◌, ◌==◌, ℕ, ◌≤◌, List, [], ◌∷◌, ◌++◌, if◌then◌else◌, Option}
+use Rattle.std.proofs.Common.{inl, inr, refl, sym, ap, ◌∙◌, subst, arith, append-nil, Contains}
 use Rattle.std.specs.Io.KnownBytes.{Appends}
 use Rattle.std.proofs.KnownBytes.{Appends-trans}
-use Rattle.svr_core.specs.Run.{texts}
 use Rattle.svr_edge.specs.Causes.{Rose}
+use Rattle.svr_edge.specs.Disk.{DiskView, Leaves, Reads}
 use Rattle.svr_edge.proofs.CausesLemmas.{Rose-earlier}
+use Rattle.svr_edge.proofs.DiskLemmas.{Leaves-refl}
+use Rattle.svr_journal.specs.Opening.{AnyRose, opened_bytes}
+use Rattle.svr_store.specs.Opening.{IsNoJournal}
 use Rattle.svr_serve.specs.declared.ending.Ending.{Ending}
-use Rattle.svr_serve.specs.declared.ending.Ending.TheVariants.{Complete, Cut, Words, Input, Output, Memory, Bytes}
-use Rattle.svr_serve.specs.Layout.{Ends, EndsBy, WritesBehind, WritesFirst, status_of}
-use Rattle.svr_serve.specs.Program.{HasStatus, IsPrefix, Served, Stopped, StoppedBehind, Streams, TookLess, Writes, WritesFault}
-use Rattle.svr_serve.specs.Program.{WritesPart, asks_to_serve, streams}
+use Rattle.svr_serve.specs.declared.ending.Ending.TheVariants.{Complete, Cut, Words, Input, Output, Write, Device, Journal, Memory, Bytes}
+use Rattle.svr_serve.specs.Layout.{line_of_ending, status_of}
+use Rattle.svr_serve.specs.Program.{Carried, HasCause, IsHalfMade, IsPrefix, SendsAll, Streams, Unopened, WritesBehind}
+use Rattle.svr_serve.specs.Program.{WritesFault, WritesPart, fault_line, lines_of, opening_line, streams}
+use Rattle.svr_serve.specs.Ran.{EndsBecause, EndsServing, OpeningStops, Serving, StaysClosed}
 
 -- ---- statuses
 
-status_among : (e : Ending) → Contains (0 ∷ 1 ∷ 2 ∷ 3 ∷ 4 ∷ 7 ∷ 8 ∷ []) (status_of e)
-status_among Complete = (0, omega arith, refl)
-status_among Cut = (1, omega arith, refl)
-status_among Words = (2, omega arith, refl)
-status_among Input = (3, omega arith, refl)
-status_among Output = (4, omega arith, refl)
-status_among Memory = (5, omega arith, refl)
-status_among Bytes = (6, omega arith, refl)
+serving_among : (e : Ending) → EndsServing e → Contains (0 ∷ 1 ∷ 3 ∷ 4 ∷ 5 ∷ 7 ∷ 8 ∷ []) (status_of e)
+serving_among Complete s = (0, omega arith, refl)
+serving_among Cut s = (1, omega arith, refl)
+serving_among Input s = (2, omega arith, refl)
+serving_among Output s = (3, omega arith, refl)
+serving_among Write s = (4, omega arith, refl)
+serving_among Memory s = (5, omega arith, refl)
+serving_among Bytes s = (6, omega arith, refl)
+serving_among Words s = absurd s
+serving_among Device s = absurd s
+serving_among (Journal at) s = absurd s
 
--- the ending that has a status
+-- the ending behind turns that has a status
 abbrev ending_by : ℕ → Ending
 ending_by n =
     if n == 0 then Complete else if n == 1 then Cut else if n == 2 then Words else if n == 3 then Input
-    else if n == 4 then Output else if n == 7 then Memory else Bytes
+    else if n == 4 then Output else if n == 5 then Write else if n == 7 then Memory else Bytes
 
-ending_by-status_of : (e : Ending) → ending_by (status_of e) ≡ e
-ending_by-status_of Complete = refl
-ending_by-status_of Cut = refl
-ending_by-status_of Words = refl
-ending_by-status_of Input = refl
-ending_by-status_of Output = refl
-ending_by-status_of Memory = refl
-ending_by-status_of Bytes = refl
+ended_as : (e : Ending) (n : ℕ) → status_of e ≡ n → (n ≡ 5 → ⊥) → (n ≡ 6 → ⊥) → e ≡ ending_by n
+ended_as Complete n h five six = ap ending_by h
+ended_as Cut n h five six = ap ending_by h
+ended_as Words n h five six = ap ending_by h
+ended_as Input n h five six = ap ending_by h
+ended_as Output n h five six = ap ending_by h
+ended_as Memory n h five six = ap ending_by h
+ended_as Bytes n h five six = ap ending_by h
+ended_as Write n h five six = absurd (five (sym h))
+ended_as Device n h five six = absurd (five (sym h))
+ended_as (Journal at) n h five six = absurd (six (sym h))
 
-ended_as : (e : Ending) (n : ℕ) → status_of e ≡ n → e ≡ ending_by n
-ended_as e n h = sym (ending_by-status_of e) ∙ ap ending_by h
+write_as : (e : Ending) → EndsServing e → status_of e ≡ 5 → e ≡ Write
+write_as Write s h = refl
+write_as Device s h = absurd s
+write_as (Journal at) s h = absurd s
+write_as Complete s h = cc
+write_as Cut s h = cc
+write_as Words s h = cc
+write_as Input s h = cc
+write_as Output s h = cc
+write_as Memory s h = cc
+write_as Bytes s h = cc
+
+serving_line : (e : Ending) → EndsServing e → line_of_ending e ≡ fault_line (status_of e)
+serving_line Complete s = refl
+serving_line Cut s = refl
+serving_line Input s = refl
+serving_line Output s = refl
+serving_line Write s = refl
+serving_line Memory s = refl
+serving_line Bytes s = refl
+serving_line Words s = absurd s
+serving_line Device s = absurd s
+serving_line (Journal at) s = absurd s
 
 -- ---- the fault line
 
 -- the same fault, from an earlier count
-WritesFault-earlier : (status start before after : ℕ) (line : List ℕ) → start ≤ before → WritesFault status before after line
-    → WritesFault status start after line
-WritesFault-earlier status start before after line h f = record {
+WritesFault-earlier : (whole line : List ℕ) (start before after : ℕ) → start ≤ before → WritesFault whole before after line
+    → WritesFault whole start after line
+WritesFault-earlier whole line start before after h f = record {
   part = f.part;
-  cause = elim f.cause [ inl whole ↦ inl whole | inr rose ↦ inr (Rose-earlier start before after h rose) ];
+  cause = elim f.cause [ inl all ↦ inl all | inr rose ↦ inr (Rose-earlier start before after h rose) ];
 }
 
 front_of_none : (front : List ℕ) → IsPrefix front [] → front ≡ []
 front_of_none [] p = refl
 front_of_none (x ∷ front) p = cc
 
--- a line was written behind the replies
-module _ (rest taken mid now : Option (List ℕ)) (line : List ℕ) (q : Appends mid now line) where
-  Appends-none : (bytes : List ℕ) → line ≡ [] → Appends taken mid bytes → Appends taken now bytes
-  Appends-none bytes none p = subst (Appends taken now) (ap (λ xs. bytes ++ xs) none ∙ append-nil bytes)
-      (Appends-trans taken mid now bytes line p q)
+-- ---- behind serving
 
-  Served-on : (left : Option (List ℕ)) → Served left rest taken mid → line ≡ [] → Served left rest taken now
-  Served-on None s none = record { end = s.end; uncut = tt; replies = tt }
-  Served-on (Some x) s none = record {
-    end = s.end;
-    uncut = s.uncut;
-    replies = (s.replies.0, s.replies.1, Appends-none (texts s.replies.0) none s.replies.2);
+module _ (e : Ending) (start mid : Streams) (old new : DiskView) (taken sent : Option (List ℕ)) (failed : ℕ) (line : List ℕ)
+    (q : Appends mid.taken taken line) (fault : WritesFault (line_of_ending e) mid.failed_writes failed line)
+    (because : EndsBecause e start mid old new) (later : mid.failed_writes ≤ failed) where
+  abbrev after : Streams
+  after = streams mid.left mid.failed_reads taken sent failed
+
+  fault_since : WritesFault (line_of_ending e) start.failed_writes failed line
+  fault_since = WritesFault-earlier (line_of_ending e) line start.failed_writes mid.failed_writes failed because.later fault
+
+  -- ---- turns were carried
+
+  module _ (s : Serving e start mid old new) where
+    lines_on : (status_of e ≡ 4 → ⊥) → WritesBehind (lines_of s.turns) (fault_line (status_of e)) start after
+    lines_on other = (
+      line,
+      subst (λ (whole : List ℕ). WritesFault whole start.failed_writes failed line) (serving_line e s.ran.serving) fault_since,
+      Appends-trans start.taken mid.taken taken (lines_of s.turns) line (s.ran.lines (λ is. other (ap status_of is))) q,
+    )
+
+    no_line : e ≡ Output → line ≡ []
+    no_line is = front_of_none line (subst (λ (x : Ending). IsPrefix line (line_of_ending x)) is fault.part)
+
+    part_on : e ≡ Output → WritesPart (lines_of s.turns) start after
+    part_on is =
+        let p = s.ran.part is in (
+          p.0,
+          p.1,
+          subst (Appends start.taken taken) (ap (λ xs. p.0 ++ xs) (no_line is) ∙ append-nil p.0)
+              (Appends-trans start.taken mid.taken taken p.0 line p.2 q),
+        )
+
+    pub carried : Carried (status_of e) start after old new
+    carried = record {
+      opening = s.opening;
+      turns = s.turns;
+      statuses = serving_among e s.ran.serving;
+      found = s.found;
+      run = s.ran.run;
+      answered = s.ran.answered;
+      lines = lines_on;
+      part = λ h. part_on (ended_as e 4 h (λ is. cc) (λ is. cc));
+      write = λ h. let is = write_as e s.ran.serving h in (s.ran.closed is, because.write is);
+      going = λ five seven. s.ran.going (λ is. five (ap status_of is)) (λ is. seven (ap status_of is));
+      survives = s.survives;
+      recovers = s.recovers;
+    }
+
+  -- ---- nothing was read
+
+  module _ (same : mid ≡ start) where
+    line_alone : (whole : List ℕ) → line_of_ending e ≡ whole → WritesBehind [] whole start after
+    line_alone whole is = (
+      line,
+      subst (λ (w : List ℕ). WritesFault w start.failed_writes failed line) is fault_since,
+      subst (λ (s : Streams). Appends s.taken taken line) same q,
+    )
+
+    unread : after.left ≡ start.left
+    unread = ap (λ (s : Streams). s.left) same
+
+  pub why : HasCause (status_of e) start after
+  why = record {
+    cut = λ h. because.cut (ended_as e 1 h (λ is. cc) (λ is. cc));
+    input = λ h. because.input (ended_as e 3 h (λ is. cc) (λ is. cc));
+    output = λ h.
+        let rose = because.output (ended_as e 4 h (λ is. cc) (λ is. cc)) in
+        omega (arith, rose, later);
+    bytes = λ h. because.bytes (ended_as e 8 h (λ is. cc) (λ is. cc));
+    before_limit = λ h. because.before_limit (elim h [
+      | inl zero ↦ inl (ended_as e 0 zero (λ is. cc) (λ is. cc))
+      | inr other ↦ elim other [
+        | inl one ↦ inr (inl (ended_as e 1 one (λ is. cc) (λ is. cc)))
+        | inr three ↦ inr (inr (ended_as e 3 three (λ is. cc) (λ is. cc)))
+      ]
+    ]);
   }
 
-  WritesPart-on : (left : Option (List ℕ)) → WritesPart left taken mid → line ≡ [] → WritesPart left taken now
-  WritesPart-on None s none = tt
-  WritesPart-on (Some x) s none = (s.0, s.1, s.2, s.3, Appends-none s.1 none s.4)
+  pub sends : (mid.sent ≡ mid.taken → (sent ≡ taken) ⊎ Rose mid.failed_writes failed) → SendsAll start after
+  sends on first = elim (because.sent first) [
+    | inl all ↦ elim (on all) [
+      | inl now ↦ inl now
+      | inr rose ↦ inr (Rose-earlier start.failed_writes mid.failed_writes failed because.later rose)
+    ]
+    | inr rose ↦ inr (omega (arith, rose, later))
+  ]
 
-  Behind-on : (left : Option (List ℕ)) (status before after : ℕ) → WritesBehind left rest taken mid
-      → WritesFault status before after line → StoppedBehind status before after left rest taken now
-  Behind-on left status before after s f = (s.0, s.1, line, s.2, s.3, f, Appends-trans taken mid now (texts s.1) line s.4 q)
+-- no request was read
+module _ (start mid : Streams) (old new : DiskView) (taken sent : Option (List ℕ)) (failed : ℕ) (line : List ℕ)
+    (q : Appends mid.taken taken line) (later : mid.failed_writes ≤ failed) (same : mid ≡ start) (images : Leaves old new (IsHalfMade old)) where
+  abbrev ending : Streams
+  ending = streams mid.left mid.failed_reads taken sent failed
 
-  Stopped-on : (left : Option (List ℕ)) (status before after : ℕ) → WritesFirst left taken mid
-      → WritesFault status before after line → Stopped status before after left taken now
-  Stopped-on None status before after s f = tt
-  Stopped-on (Some x) status before after s f = (s.0, line, s.1, f, Appends-trans taken mid now (texts s.0) line s.2 q)
+  unopened_so : (status at : ℕ) (e : Ending) → WritesFault (line_of_ending e) mid.failed_writes failed line → EndsBecause e start mid old new
+      → line_of_ending e ≡ opening_line status at → Contains (2 ∷ 5 ∷ 6 ∷ 7 ∷ []) status
+      → ((status ≡ 2) ⊎ (status ≡ 6) → (bytes : List ℕ) → Reads old bytes → Reads new bytes) → (status ≡ 5 → AnyRose old new)
+      → (status ≡ 6 → (bytes : List ℕ) → Reads old bytes → IsNoJournal (opened_bytes bytes) at)
+      → Unopened status start ending old new
+  unopened_so status at e fault because is among unchanged device journal = record {
+    at = at;
+    statuses = among;
+    unread = unread e start mid old new taken sent failed line q fault because later same;
+    line = line_alone e start mid old new taken sent failed line q fault because later same (opening_line status at) is;
+    images = images;
+    unchanged = unchanged;
+    device = device;
+    journal = journal;
+  }
 
--- ---- after serving
+  pub unopened : (e : Ending) → WritesFault (line_of_ending e) mid.failed_writes failed line → EndsBecause e start mid old new
+      → OpeningStops e old new → Unopened (status_of e) start ending old new
+  unopened Device fault because stops = unopened_so 5 0 Device fault because refl (1, omega arith, refl)
+      (λ h. elim h [ inl x ↦ cc | inr x ↦ cc ]) (λ h. stops) (λ h. cc)
+  unopened (Journal at) fault because stops = unopened_so 6 at (Journal at) fault because refl (2, omega arith, refl)
+      (λ h bytes reads. (stops bytes reads).1) (λ h. cc) (λ h bytes reads. (stops bytes reads).0)
+  unopened Memory fault because stops = unopened_so 7 0 Memory fault because refl (3, omega arith, refl)
+      (λ h. elim h [ inl x ↦ cc | inr x ↦ cc ]) (λ h. cc) (λ h. cc)
+  unopened Complete fault because stops = absurd stops
+  unopened Cut fault because stops = absurd stops
+  unopened Words fault because stops = absurd stops
+  unopened Input fault because stops = absurd stops
+  unopened Output fault because stops = absurd stops
+  unopened Write fault because stops = absurd stops
+  unopened Bytes fault because stops = absurd stops
 
-module _ (e : Ending) (start mid : Streams) (ends : Ends e start mid) (status : ℕ) (is : status ≡ status_of e) where
-  ends_by : (n : ℕ) → status ≡ n → EndsBy (ending_by n) start.left mid.left start.taken mid.taken
-  ends_by n h = subst (λ (x : Ending). EndsBy x start.left mid.left start.taken mid.taken) (ended_as e n (sym is ∙ h)) ends.by
+-- nothing was done
+pub still_because : (e : Ending) (s : Streams) (d : DiskView) (new : DiskView) → (e ≡ Complete → ⊥) → (e ≡ Cut → ⊥) → (e ≡ Input → ⊥)
+    → (e ≡ Output → ⊥) → (e ≡ Write → ⊥) → (e ≡ Bytes → ⊥) → EndsBecause e s s d new
+still_because e s d new complete cut input output write bytes = record {
+  sent = λ first. inl first;
+  later = omega arith;
+  cut = λ is. absurd (cut is);
+  input = λ is. absurd (input is);
+  output = λ is. absurd (output is);
+  write = λ is. absurd (write is);
+  bytes = λ is. absurd (bytes is);
+  before_limit = λ by. elim by [ inl is ↦ absurd (complete is) | inr other ↦ elim other [ inl is ↦ absurd (cut is) | inr is ↦ absurd (input is) ] ];
+}
 
-  module _ (taken sent : Option (List ℕ)) (failed : ℕ) (line : List ℕ) (q : Appends mid.taken taken line)
-      (fault : WritesFault status mid.failed_writes failed line) (later : mid.failed_writes ≤ failed) where
-    after : Streams
-    after = streams mid.left mid.failed_reads taken sent failed
+-- a disk that couldn't be opened
+pub closed_because : (e : Ending) (s : Streams) (old new : DiskView) → OpeningStops e old new → EndsBecause e s s old new
+closed_because Device s old new stops = still_because Device s old new (λ is. cc) (λ is. cc) (λ is. cc) (λ is. cc) (λ is. cc) (λ is. cc)
+closed_because (Journal at) s old new stops = still_because (Journal at) s old new (λ is. cc) (λ is. cc) (λ is. cc) (λ is. cc) (λ is. cc) (λ is. cc)
+closed_because Memory s old new stops = still_because Memory s old new (λ is. cc) (λ is. cc) (λ is. cc) (λ is. cc) (λ is. cc) (λ is. cc)
+closed_because Complete s old new stops = absurd stops
+closed_because Cut s old new stops = absurd stops
+closed_because Words s old new stops = absurd stops
+closed_because Input s old new stops = absurd stops
+closed_because Output s old new stops = absurd stops
+closed_because Write s old new stops = absurd stops
+closed_because Bytes s old new stops = absurd stops
 
-    fault_since : (n : ℕ) → status ≡ n → WritesFault n start.failed_writes failed line
-    fault_since n h = subst (λ (k : ℕ). WritesFault k start.failed_writes failed line) h
-        (WritesFault-earlier status start.failed_writes mid.failed_writes failed line ends.later fault)
+-- the words have no reading
+pub unread_words : (start : Streams) (d : DiskView) (taken sent : Option (List ℕ)) (failed : ℕ) (line : List ℕ)
+    → Appends start.taken taken line → WritesFault (opening_line 2 0) start.failed_writes failed line → start.failed_writes ≤ failed
+    → Unopened 2 start (streams start.left start.failed_reads taken sent failed) d d
+unread_words start d taken sent failed line q fault later = unopened_so start start d d taken sent failed line q later refl
+    (Leaves-refl d (IsHalfMade d)) 2 0 Words fault
+    (still_because Words start d d (λ is. cc) (λ is. cc) (λ is. cc) (λ is. cc) (λ is. cc) (λ is. cc)) refl (0, omega arith, refl)
+    (λ h bytes reads. reads) (λ h. cc) (λ h. cc)
 
-    behind : (n : ℕ) → status ≡ n → WritesBehind start.left mid.left start.taken mid.taken
-        → StoppedBehind status start.failed_writes failed start.left mid.left start.taken taken
-    behind n h s = Behind-on mid.left start.taken mid.taken taken line q start.left status start.failed_writes failed s
-        (fault_since status refl)
+-- by the way that serving ended
+module _ (status : ℕ) (e : Ending) (start mid : Streams) (old new : DiskView) (taken sent : Option (List ℕ)) (failed : ℕ) (line : List ℕ)
+    (is : status ≡ status_of e) (q : Appends mid.taken taken line) (fault : WritesFault (line_of_ending e) mid.failed_writes failed line)
+    (because : EndsBecause e start mid old new) (later : mid.failed_writes ≤ failed) where
+  abbrev finished : Streams
+  finished = streams mid.left mid.failed_reads taken sent failed
 
-    pub writes_by : (mid.sent ≡ mid.taken → (sent ≡ taken) ⊎ Rose mid.failed_writes failed)
-        → Writes status start (streams mid.left mid.failed_reads taken sent failed)
-    writes_by sends = record {
-      served = λ h. Served-on mid.left start.taken mid.taken taken line q start.left (ends_by 0 h)
-          (front_of_none line (fault_since 0 h).part);
-      part = λ h. WritesPart-on mid.left start.taken mid.taken taken line q start.left (ends_by 4 h)
-          (front_of_none line (fault_since 4 h).part);
-      stopped = λ h. elim h [
-        | inl cut ↦ behind 1 cut (ends_by 1 cut).0
-        | inr other ↦ elim other [ inl input ↦ behind 3 input (ends_by 3 input) | inr bytes ↦ behind 8 bytes (ends_by 8 bytes) ]
-      ];
-      memory = λ h. Stopped-on mid.left start.taken mid.taken taken line q start.left 7 start.failed_writes failed (ends_by 7 h)
-          (fault_since 7 h);
-      unread = λ h. absurd (ends_by 2 h);
-      sent = λ first. elim (ends.sent first) [
-        | inl all ↦ elim (sends all) [
-          | inl now ↦ inl now
-          | inr rose ↦ inr (Rose-earlier start.failed_writes mid.failed_writes failed ends.later rose)
-        ]
-        | inr rose ↦ inr (omega (arith, rose, later))
-      ];
-    }
+  pub ends_by : StaysClosed e start mid old new ⊎ Serving e start mid old new → Unopened status start finished old new ⊎ Carried status start finished old new
+  ends_by by = elim by [
+    | inl s ↦ inl (subst (λ (n : ℕ). Unopened n start finished old new) (sym is)
+        (unopened start mid old new taken sent failed line q later s.streams s.images e fault because s.stops))
+    | inr s ↦ inr (subst (λ (n : ℕ). Carried n start finished old new) (sym is)
+        (carried e start mid old new taken sent failed line q fault because later s))
+  ]
 
-    took_less : (status ≡ 0) ⊎ (status ≡ 1) ⊎ (status ≡ 3) → TookLess (2 ^ 40) start.left mid.left
-    took_less h = ends.before_limit (elim h [
-      | inl zero ↦ inl (ended_as e 0 (sym is ∙ zero))
-      | inr other ↦ elim other [
-        | inl one ↦ inr (inl (ended_as e 1 (sym is ∙ one)))
-        | inr three ↦ inr (inr (ended_as e 3 (sym is ∙ three)))
+  pub cause_by : HasCause status start finished
+  cause_by = subst (λ (n : ℕ). HasCause n start finished) (sym is) (why e start mid old new taken sent failed line q fault because later)
+
+  pub words_by : StaysClosed e start mid old new ⊎ Serving e start mid old new → status ≡ 2 → ⊥
+  words_by by two =
+      let words : e ≡ Words = ended_as e 2 (sym is ∙ two) (λ five. cc) (λ six. cc) in
+      elim by [
+        | inl s ↦ subst (λ (x : Ending). OpeningStops x old new) words s.stops
+        | inr s ↦ subst EndsServing words s.ran.serving
       ]
-    ])
 
-    pub status_by : (command : List (List ℕ)) → (asks_to_serve command ≡ false → ⊥)
-        → HasStatus command status start (streams mid.left mid.failed_reads taken sent failed)
-    status_by command asks = record {
-      statuses = subst (Contains (0 ∷ 1 ∷ 2 ∷ 3 ∷ 4 ∷ 7 ∷ 8 ∷ [])) (sym is) (status_among e);
-      words = (λ h. absurd (ends_by 2 h), λ no. absurd (asks no));
-      cut = λ h. (ends_by 1 h).1;
-      input = λ h. ends.input (ended_as e 3 (sym is ∙ h));
-      output = λ h.
-          let rose = ends.output (ended_as e 4 (sym is ∙ h)) in
-          omega (arith, rose, later);
-      bytes = λ h. ends.bytes (ended_as e 8 (sym is ∙ h));
-      before_limit = took_less;
-    }
+-- the same causes, from before the disk was opened
+pub because_earlier : (e : Ending) (start mid : Streams) (old opened new : DiskView) → old.write_faults ≤ opened.write_faults
+    → EndsBecause e start mid opened new → EndsBecause e start mid old new
+because_earlier e start mid old opened new later b = record {
+  sent = b.sent;
+  later = b.later;
+  cut = b.cut;
+  input = b.input;
+  output = b.output;
+  write = λ is. Rose-earlier old.write_faults opened.write_faults new.write_faults later (b.write is);
+  bytes = b.bytes;
+  before_limit = b.before_limit;
+}

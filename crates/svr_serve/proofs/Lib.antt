@@ -1,5 +1,7 @@
 pub mod Endings
 pub mod Joins
+pub mod Kept
+pub mod Opened
 pub mod Parts
 pub mod Runs
 pub mod SoFar

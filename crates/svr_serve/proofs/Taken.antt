@@ -174,6 +174,9 @@ module _ (before mid after : Option (List ℕ)) (old line_read new : Reading) (r
   stops_on ending.Output p ended less = absurd p
   stops_on ending.Complete p ended less = absurd p
   stops_on ending.Words p ended less = absurd p
+  stops_on ending.Write p ended less = absurd p
+  stops_on ending.Device p ended less = absurd p
+  stops_on (ending.Journal at) p ended less = absurd p
 
 -- reading stopped in a line
 pub stops_in_line : (before after : Option (List ℕ)) (old new : Reading) (bytes : List ℕ) → (old.ended ≡ true → ⊥)

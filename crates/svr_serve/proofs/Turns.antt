@@ -3,53 +3,59 @@ use Rattle.std.proofs.Common.{◌≡◌, ℕ, ◌≤◌, inl, inr, Bool, true, f
 use Rattle.std.proofs.Common.{◌++◌, refl, sym, ap, ◌∙◌, subst, arith, append_assoc, length-append, Option}
 use Rattle.std.specs.Io.KnownBytes.{Appends, Consumes}
 use Rattle.std.proofs.KnownBytes.{Appends-nil, Appends-trans, Consumes-nil, Consumes-trans}
-use Rattle.svr_core.specs.Run.{IsRun, MayReply, state_in_end, state_then, texts}
-use Rattle.svr_core.specs.State.{State, empty}
+use Rattle.svr_core.specs.Run.{Turn, closes, state_in_end}
+use Rattle.svr_core.specs.State.{State}
+use Rattle.svr_edge.specs.Disk.{DiskView}
 use Rattle.svr_lines.specs.Reading.{Reading, Reads, taken_bytes}
 use Rattle.svr_request.specs.declared.reply.Reply.{Reply}
 use Rattle.svr_request.specs.Replies.{text_of}
 use Rattle.svr_request.specs.Requests.{Submitted}
+use Rattle.svr_store.specs.Store.{Serves}
+use Rattle.svr_store.specs.Submitting.{Submits}
 use Rattle.svr_serve.specs.Input.{requests_of}
 use Rattle.svr_serve.specs.declared.session.Session.{Session}
-use Rattle.svr_serve.specs.declared.turn.Turn.TheVariants.{Served}
-use Rattle.svr_serve.specs.Layout.{Answers, HasTurnCauses, IsNew, Replies, Standing, TakesRequest, TurnDoes, standing}
-use Rattle.svr_serve.specs.Program.{Streams}
+use Rattle.svr_serve.specs.declared.turn.Turn.TheVariants as turn
+use Rattle.svr_serve.specs.Layout.{TakesRequest}
+use Rattle.svr_serve.specs.Program.{Streams, lines_of, requests_in}
+use Rattle.svr_serve.specs.Turning.{HasTurnCauses, IsNew, Standing, TurnDoes, TurnReplies, Writes, standing}
+use Rattle.svr_serve.proofs.Kept.{Kept-more, Kept-start}
 use Rattle.svr_serve.proofs.SoFar.{Between, IsWhole, SoFar}
 use Rattle.svr_serve.proofs.Joins.{IsWhole-more, IsWhole-nil, ends_in_block-more, ends_in_block-nil, requests_of-more, requests_of-none}
-use Rattle.svr_serve.proofs.Runs.{IsRun-more, changes_then, state_in_end-more, texts-more}
+use Rattle.svr_serve.proofs.Runs.{lines_of-more, requests_in-more}
 
 -- ---- the start
 
 not_both : (b : Bool) → b ≡ true → b ≡ false → ⊥
 not_both b h k = cc
 
-SoFar-start : (start : Streams) (session : Session) → IsNew session → SoFar start.left start.taken (standing start session.lines session.core)
-SoFar-start start session new =
-    let lines = session.lines in
-    let open_end = ap (λ r. r.ended) new.lines in record {
-      handed = [];
-      replies = [];
-      consumed = subst (λ (xs : List ℕ). Consumes start.left start.left xs) (sym (ap (λ r. r.ahead) new.lines)) (Consumes-nil start.left);
-      count = ap (λ r. r.handed) new.lines;
-      few = omega (arith, ap taken_bytes new.lines);
-      limit = ap (λ r. r.limit) new.lines;
-      whole = λ _. IsWhole-nil;
-      uncut = ends_in_block-nil;
-      known_end = λ is. absurd (not_both lines.ended is open_end);
-      before_limit = λ is. absurd (not_both lines.ended is open_end);
-      run = subst (λ (rs : List Submitted). IsRun empty rs []) (sym (requests_of-none [] refl)) tt;
-      state = new.core ∙ ap (λ rs. state_in_end empty rs []) (sym (requests_of-none [] refl));
-      changes = omega (arith, ap (λ s. s.changes) new.core);
-      written = Appends-nil start.taken;
-    }
+module _ (opening : State) (start : Streams) (disk : DiskView) (session : Session) (new : IsNew session disk) (serves : Serves session.store opening) where
+  SoFar-start : SoFar opening start.left start.taken disk (standing start disk session.lines session.store)
+  SoFar-start =
+      let lines = session.lines in
+      let open_end = ap (λ (r : Reading). r.ended) new.lines in record {
+        handed = [];
+        consumed = subst (λ (xs : List ℕ). Consumes start.left start.left xs) (sym (ap (λ (r : Reading). r.ahead) new.lines)) (Consumes-nil start.left);
+        count = ap (λ (r : Reading). r.handed) new.lines;
+        few = omega (arith, ap taken_bytes new.lines);
+        limit = ap (λ (r : Reading). r.limit) new.lines;
+        whole = λ _. IsWhole-nil;
+        uncut = ends_in_block-nil;
+        known_end = λ is. absurd (not_both lines.ended is open_end);
+        before_limit = λ is. absurd (not_both lines.ended is open_end);
+        turns = [];
+        asked = sym (requests_of-none [] refl);
+        kept = Kept-start opening disk session.store serves;
+        written = Appends-nil start.taken;
+      }
 
-pub Between-start : (start : Streams) (session : Session) → IsNew session → Between start (standing start session.lines session.core)
-Between-start start session new = record {
-  so_far = SoFar-start start session new;
-  sent = λ first. first;
-  reads_later = omega arith;
-  writes_later = omega arith;
-}
+  pub Between-start : Between opening start disk (standing start disk session.lines session.store)
+  Between-start = record {
+    so_far = SoFar-start;
+    sent = λ first. first;
+    reads_later = omega arith;
+    writes_later = omega arith;
+    disk_later = omega arith;
+  }
 
 -- ---- more bytes were read
 
@@ -68,12 +74,7 @@ Consumes-reads a b c old new handed gone bytes p r = subst (Consumes a c) (sym (
 
 -- ---- one request more
 
-more_text : (a b c : Option (List ℕ)) (replies : List Reply) (reply : Reply) → Appends a b (texts replies)
-    → Appends b c (text_of reply) → Appends a c (texts (replies ++ reply ∷ []))
-more_text a b c replies reply p q = subst (Appends a c) (sym (texts-more replies reply))
-    (Appends-trans a b c (texts replies) (text_of reply) p q)
-
-module _ (left taken : Option (List ℕ)) (old new : Standing) (s : SoFar left taken old) where
+module _ (opening : State) (left taken : Option (List ℕ)) (disk : DiskView) (old new : Standing) (s : SoFar opening left taken disk old) where
   next_requests : (request : Submitted) (t : TakesRequest old.streams.left new.streams.left old.lines new.lines request)
       → requests_of (s.handed ++ t.gone) ≡ requests_of s.handed ++ request ∷ []
   next_requests request t = requests_of-more s.handed t.gone request (s.whole t.open_end) t.part
@@ -85,47 +86,49 @@ module _ (left taken : Option (List ℕ)) (old new : Standing) (s : SoFar left t
     | inr end ↦ absurd (not_both new.lines.ended end.0.ended is)
   ]
 
-  pub next_run : (reply : Reply) (a : Answers old.streams.left new.streams.left old.lines new.lines old.core new.core reply)
-      → IsRun empty (requests_of (s.handed ++ a.takes.gone)) (s.replies ++ reply ∷ [])
-  next_run reply a =
-      let may = subst (λ (core : State). MayReply core a.request reply) s.state a.may in
-      subst (λ (rs : List Submitted). IsRun empty rs (s.replies ++ reply ∷ [])) (sym (next_requests a.request a.takes))
-      (IsRun-more a.request reply empty (requests_of s.handed) s.replies s.run may)
+  module _ (reply : Reply) (r : TurnReplies old new reply) where
+    abbrev pub one : Submits old.disk new.disk new.store (state_in_end opening s.turns) r.request reply
+    one = r.answers.submits (state_in_end opening s.turns) s.kept.serves
 
-  next_state : (reply : Reply) (a : Answers old.streams.left new.streams.left old.lines new.lines old.core new.core reply)
-      → new.core ≡ state_in_end empty (requests_of (s.handed ++ a.takes.gone)) (s.replies ++ reply ∷ [])
-  next_state reply a = a.state ∙ ap (λ core. state_then core a.request reply) s.state
-      ∙ sym (state_in_end-more a.request reply empty (requests_of s.handed) s.replies s.run)
-      ∙ ap (λ rs. state_in_end empty rs (s.replies ++ reply ∷ [])) (sym (next_requests a.request a.takes))
+    abbrev pub all : List Turn
+    all = s.turns ++ one.turn ∷ []
 
-  SoFar-more : (reply : Reply) → Replies old new reply (text_of reply) → taken_bytes new.lines ≤ new.lines.limit
-      → SoFar left taken new
-  SoFar-more reply r few =
-      let a = r.answers in
-      let t = a.takes in
-      let limit = t.reads.limit ∙ s.limit in record {
-        handed = s.handed ++ t.gone;
-        replies = s.replies ++ reply ∷ [];
-        consumed = Consumes-reads left old.streams.left new.streams.left old.lines new.lines s.handed t.gone t.bytes s.consumed t.reads;
-        count = omega (arith, s.count, t.reads.handed, length-append s.handed t.gone);
-        few = omega (arith, few, limit);
-        limit = limit;
-        whole = next_whole a.request t;
-        uncut = ends_in_block-more s.handed t.gone a.request (s.whole t.open_end) t.part s.uncut;
-        known_end = t.known_end;
-        before_limit = λ is. omega (arith, t.before_limit is, limit);
-        run = next_run reply a;
-        state = next_state reply a;
-        changes = omega (arith, s.changes, ap (λ core. core.changes) a.state, changes_then old.core a.request reply, t.progress);
-        written = more_text taken old.streams.taken new.streams.taken s.replies reply s.written r.bytes;
-      }
+    pub asked_more : requests_in all ≡ requests_of (s.handed ++ r.takes.gone)
+    asked_more = requests_in-more s.turns one.turn ∙ ap (λ (rs : List Submitted). rs ++ one.turn.request ∷ []) s.asked
+        ∙ ap (λ (q : Submitted). requests_of s.handed ++ q ∷ []) one.asked ∙ sym (next_requests r.request r.takes)
+
+    pub lines_going : closes reply ≡ false → lines_of all ≡ lines_of s.turns ++ text_of reply
+    lines_going going =
+        let is : closes one.turn.reply ≡ false = ap closes one.told ∙ going in
+        lines_of-more s.turns one.turn ∙ (rw is (ap (λ (p : Reply). lines_of s.turns ++ text_of p) one.told))
+
+    SoFar-more : Writes old new reply (text_of reply) → taken_bytes new.lines ≤ new.lines.limit → SoFar opening left taken disk new
+    SoFar-more w few =
+        let t = r.takes in
+        let limit = t.reads.limit ∙ s.limit in record {
+          handed = s.handed ++ t.gone;
+          consumed = Consumes-reads left old.streams.left new.streams.left old.lines new.lines s.handed t.gone t.bytes s.consumed t.reads;
+          count = omega (arith, s.count, t.reads.handed, length-append s.handed t.gone);
+          few = omega (arith, few, limit);
+          limit = limit;
+          whole = next_whole r.request t;
+          uncut = ends_in_block-more s.handed t.gone r.request (s.whole t.open_end) t.part s.uncut;
+          known_end = t.known_end;
+          before_limit = λ is. omega (arith, t.before_limit is, limit);
+          turns = all;
+          asked = asked_more;
+          kept = Kept-more opening s.turns disk old.disk new.disk old.store new.store s.kept r.request reply one w.going;
+          written = subst (Appends taken new.streams.taken) (sym (lines_going w.going))
+              (Appends-trans taken old.streams.taken new.streams.taken (lines_of s.turns) (text_of reply) s.written w.bytes);
+        }
 
 -- a turn that served a request
-pub Between-more : (start : Streams) (old new : Standing) → Between start old → TurnDoes Served old new → HasTurnCauses Served old new
-    → Between start new
-Between-more start old new b turn causes = record {
-  so_far = SoFar-more start.left start.taken old new b.so_far turn.0.0 turn.0.1 causes.few;
-  sent = λ first. turn.1;
+pub Between-more : (opening : State) (start : Streams) (disk : DiskView) (old new : Standing) → Between opening start disk old
+    → TurnDoes turn.Served old new → HasTurnCauses turn.Served old new → Between opening start disk new
+Between-more opening start disk old new b done causes = record {
+  so_far = SoFar-more opening start.left start.taken disk old new b.so_far done.reply done.writes.replied done.writes causes.few;
+  sent = λ first. done.sent;
   reads_later = omega (arith, b.reads_later, causes.reads_later);
   writes_later = omega (arith, b.writes_later, causes.writes_later);
+  disk_later = omega (arith, b.disk_later, causes.disk_later);
 }

@@ -1,3 +1,5 @@
 pub mod Input
 pub mod Program
 pub mod Layout
+pub mod Turning
+pub mod Ran

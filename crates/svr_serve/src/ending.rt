@@ -1,9 +1,10 @@
 ghost use Rattle.std.specs.Prelude.{◌≡◌};
-ghost use Rattle.svr_serve.specs.Program.{fault_line};
-ghost use Rattle.svr_serve.specs.Layout.{status_of};
+ghost use Rattle.svr_serve.specs.Layout.{HasNoNumber, line_of_ending, status_of};
 
 use svr_edge::Memory;
+use svr_journal::JournalError;
 use svr_lines::InputStop;
+use svr_store::Closed;
 
 /// How the program ends.
 #[derive(Clone, Copy, Debug, PartialEq, Eq)]
@@ -18,7 +19,13 @@ pub(crate) enum Ending {
     Input,
     /// The sink failed.
     Output,
-    /// Memory was wanting before a line could be read as a request, or in the middle of a change.
+    /// A write or a sync of a change's record failed.
+    Write,
+    /// The disk failed when it was opened.
+    Device,
+    /// The disk is no journal: this place is at fault.
+    Journal(u64),
+    /// Memory was wanting before a line could be read as a request, or behind the record of a change.
     Memory,
     /// As many bytes were read as may be.
     Bytes,
@@ -34,6 +41,35 @@ impl From<InputStop> for Ending {
         match stop {
             InputStop::Input => Ending::Input,
             InputStop::Bytes => Ending::Bytes,
+        }
+    }
+}
+
+impl From<JournalError> for Ending {
+    ghost use Rattle.std.specs.Prelude.{◌≡◌};
+    ghost use Rattle.svr_serve.specs.Layout.{ending_of_error};
+
+    ghost from_gives = { λ error ending. ending ≡ ending_of_error error };
+
+    fn from(error: JournalError) -> Ending {
+        match error {
+            JournalError::Device => Ending::Device,
+            JournalError::NotAJournal { at } => Ending::Journal(at),
+            JournalError::Memory => Ending::Memory,
+        }
+    }
+}
+
+impl From<Closed> for Ending {
+    ghost use Rattle.std.specs.Prelude.{◌≡◌};
+    ghost use Rattle.svr_serve.specs.Layout.{ending_of_closed};
+
+    ghost from_gives = { λ why ending. ending ≡ ending_of_closed why };
+
+    fn from(why: Closed) -> Ending {
+        match why {
+            Closed::Write => Ending::Write,
+            Closed::Memory => Ending::Memory,
         }
     }
 }
@@ -59,19 +95,24 @@ impl Ending {
             Ending::Words => 2,
             Ending::Input => 3,
             Ending::Output => 4,
+            Ending::Write | Ending::Device => 5,
+            Ending::Journal(_) => 6,
             Ending::Memory => 7,
             Ending::Bytes => 8,
         }
     }
 
+    /// The fault line, where no number stands in it; empty where there is none.
     pub(crate) fn fault_line(self) -> &'static [u8]
-        ensures { result.now ≡ fault_line (status_of self) }
+        ensures { HasNoNumber self → result.now ≡ line_of_ending self }
     {
         match self {
-            Ending::Complete | Ending::Output => b"",
+            Ending::Complete | Ending::Output | Ending::Journal(_) => b"",
             Ending::Cut => b"{\"fault\":\"cut\"}\n",
             Ending::Words => b"{\"fault\":\"words\"}\n",
             Ending::Input => b"{\"fault\":\"input\"}\n",
+            Ending::Write => b"{\"fault\":\"write\"}\n",
+            Ending::Device => b"{\"fault\":\"device\"}\n",
             Ending::Memory => b"{\"fault\":\"memory\"}\n",
             Ending::Bytes => b"{\"fault\":\"long\"}\n",
         }

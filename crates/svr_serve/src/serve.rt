@@ -1,28 +1,37 @@
-ghost use Rattle.std.specs.Prelude.{◌≡◌, map, string_bytes};
-ghost use Rattle.svr_serve.specs.Layout.{Ends, IsNew};
-ghost use Rattle.svr_serve.specs.Program.{HasStatus, Writes, asks_to_serve, streams};
+ghost use Rattle.std.specs.Prelude.{◌≡◌, ◌⊎◌, ◌↔◌, false, map, string_bytes};
+ghost use Rattle.svr_core.specs.State.{State};
+ghost use Rattle.svr_store.specs.Store.{Serves};
+ghost use Rattle.svr_serve.specs.Program.{Carried, HasCause, SendsAll, Unopened, asks_to_serve, streams};
+ghost use Rattle.svr_serve.specs.Ran.{Carries, EndsBecause, Serving, StaysClosed};
+ghost use Rattle.svr_serve.specs.Turning.{IsNew};
 
 use crate::ending::Ending;
 use crate::output::finish;
 use crate::session::Session;
 use crate::turn::{Turn, serve_one};
 use std::alloc::Global;
-use svr_edge::{Memory, Sink, Source};
+use svr_edge::{Disk, Sink, Source};
 
 /// Carries turns until the input ends or the program can't go on.
-fn serve_turns<S: Source, O: Sink>(
+fn serve_turns<S: Source, O: Sink, D: Disk>(
     alloc: Global,
     session: &mut Session,
     input: &mut S,
     output: &mut O,
+    disk: &mut D,
 ) -> Ending
-    requires { IsNew session.old }
-    ensures { Ends result
+    requires { IsNew session.old (D.view disk.old) }
+    ensures { (opening : State) → Serves session.old.store opening → Carries result opening
         (streams (S.left input.old) (S.faults input.old) (O.taken output.old) (O.sent output.old) (O.faults output.old))
-        (streams (S.left input.new) (S.faults input.new) (O.taken output.new) (O.sent output.new) (O.faults output.new)) }
+        (streams (S.left input.new) (S.faults input.new) (O.taken output.new) (O.sent output.new) (O.faults output.new))
+        (D.view disk.old) (D.view disk.new)
+        × EndsBecause result
+        (streams (S.left input.old) (S.faults input.old) (O.taken output.old) (O.sent output.old) (O.faults output.old))
+        (streams (S.left input.new) (S.faults input.new) (O.taken output.new) (O.sent output.new) (O.faults output.new))
+        (D.view disk.old) (D.view disk.new) }
 {
     loop {
-        match serve_one(alloc, session, input, output) {
+        match serve_one(alloc, session, input, output, disk) {
             Turn::Served => {}
             Turn::Ended => return Ending::Complete,
             Turn::Stop(ending) => return ending,
@@ -30,15 +39,29 @@ fn serve_turns<S: Source, O: Sink>(
     }
 }
 
-/// Takes the room, and serves.
-fn serve<S: Source, O: Sink>(alloc: Global, input: &mut S, output: &mut O) -> Ending
-    ensures { Ends result
+/// Takes the room, opens the store of the disk, and serves.
+fn serve<S: Source, O: Sink, D: Disk>(
+    alloc: Global,
+    input: &mut S,
+    output: &mut O,
+    disk: &mut D,
+) -> Ending
+    ensures ends { StaysClosed result
         (streams (S.left input.old) (S.faults input.old) (O.taken output.old) (O.sent output.old) (O.faults output.old))
-        (streams (S.left input.new) (S.faults input.new) (O.taken output.new) (O.sent output.new) (O.faults output.new)) }
+        (streams (S.left input.new) (S.faults input.new) (O.taken output.new) (O.sent output.new) (O.faults output.new))
+        (D.view disk.old) (D.view disk.new)
+        ⊎ Serving result
+        (streams (S.left input.old) (S.faults input.old) (O.taken output.old) (O.sent output.old) (O.faults output.old))
+        (streams (S.left input.new) (S.faults input.new) (O.taken output.new) (O.sent output.new) (O.faults output.new))
+        (D.view disk.old) (D.view disk.new) }
+    ensures because { EndsBecause result
+        (streams (S.left input.old) (S.faults input.old) (O.taken output.old) (O.sent output.old) (O.faults output.old))
+        (streams (S.left input.new) (S.faults input.new) (O.taken output.new) (O.sent output.new) (O.faults output.new))
+        (D.view disk.old) (D.view disk.new) }
 {
-    match Session::new(alloc) {
-        Ok(mut session) => serve_turns(alloc, &mut session, input, output),
-        Err(Memory) => Ending::Memory,
+    match Session::open(alloc, disk) {
+        Ok(mut session) => serve_turns(alloc, &mut session, input, output, disk),
+        Err(ending) => ending,
     }
 }
 
@@ -52,8 +75,9 @@ fn is_serve(words: &[String]) -> bool
     }
 }
 
-/// The program: reads lines of requests from `input`, and writes a line of reply to each to `output`. A line of nothing
-/// but blanks is passed over. Answers the status that it ends with.
+/// The program: opens the journal of `disk`, reads lines of requests from `input`, and writes a line of reply to each to
+/// `output`. A line of nothing but blanks is passed over. Each change is a record of the journal before it is answered.
+/// Answers the status that it ends with.
 ///
 /// | status | when | written behind the replies |
 /// |---|---|---|
@@ -62,23 +86,41 @@ fn is_serve(words: &[String]) -> bool
 /// | 2 | the words aren't the program's name and `serve`; nothing is read | `{"fault":"words"}` |
 /// | 3 | the source failed | `{"fault":"input"}` |
 /// | 4 | the sink failed; the last reply may be cut | nothing |
-/// | 7 | memory was wanting at the start, to read a line, or to make an accepted change; neither is answered | `{"fault":"memory"}` |
+/// | 5 | the disk failed when it was opened; nothing is read | `{"fault":"device"}` |
+/// | 5 | a write or a sync of a change's record failed; the record may be there or not | `{"fault":"write"}` |
+/// | 6 | the disk isn't empty, and is no journal at the place N; nothing is read | `{"fault":"journal","at":N}` |
+/// | 7 | memory was wanting at the start, to read a line, or to make a change whose record is there | `{"fault":"memory"}` |
 /// | 8 | `INPUT_BYTES` bytes were read, and no end was seen | `{"fault":"long"}` |
 ///
 /// A line without a line feed is answered at status 0 alone, where it is the last of the input. A request is whole where
-/// its line is ended by a line feed and its block is there to its end. Clauses on bytes hold where source and sink tell
-/// theirs.
-pub fn svr<S: Source, O: Sink>(alloc: Global, words: &[String], input: &mut S, output: &mut O) -> u8
-    ensures writes { Writes result
+/// its line is ended by a line feed and its block is there to its end. Clauses on bytes hold where source, sink and disk
+/// tell theirs.
+pub fn svr<S: Source, O: Sink, D: Disk>(
+    alloc: Global,
+    words: &[String],
+    input: &mut S,
+    output: &mut O,
+    disk: &mut D,
+) -> u8
+    ensures words { result ≡ 2 ↔ (asks_to_serve (map string_bytes words.now) ≡ false) }
+    ensures ends { Unopened result
+        (streams (S.left input.old) (S.faults input.old) (O.taken output.old) (O.sent output.old) (O.faults output.old))
+        (streams (S.left input.new) (S.faults input.new) (O.taken output.new) (O.sent output.new) (O.faults output.new))
+        (D.view disk.old) (D.view disk.new)
+        ⊎ Carried result
+        (streams (S.left input.old) (S.faults input.old) (O.taken output.old) (O.sent output.old) (O.faults output.old))
+        (streams (S.left input.new) (S.faults input.new) (O.taken output.new) (O.sent output.new) (O.faults output.new))
+        (D.view disk.old) (D.view disk.new) }
+    ensures cause { HasCause result
         (streams (S.left input.old) (S.faults input.old) (O.taken output.old) (O.sent output.old) (O.faults output.old))
         (streams (S.left input.new) (S.faults input.new) (O.taken output.new) (O.sent output.new) (O.faults output.new)) }
-    ensures status { HasStatus (map string_bytes words.now) result
+    ensures sent { SendsAll
         (streams (S.left input.old) (S.faults input.old) (O.taken output.old) (O.sent output.old) (O.faults output.old))
         (streams (S.left input.new) (S.faults input.new) (O.taken output.new) (O.sent output.new) (O.faults output.new)) }
 {
     if !is_serve(words) {
         return finish(Ending::Words, output);
     }
-    let ending = serve(alloc, input, output);
+    let ending = serve(alloc, input, output, disk);
     finish(ending, output)
 }

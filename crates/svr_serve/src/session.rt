@@ -1,11 +1,14 @@
-ghost use Rattle.std.specs.Prelude.{IfOk};
-ghost use Rattle.svr_serve.specs.Layout.{IsNew};
+ghost use Rattle.std.specs.Prelude.{◌≤◌};
+ghost use Rattle.svr_edge.specs.Disk.{Leaves};
+ghost use Rattle.svr_serve.specs.Program.{IsHalfMade};
+ghost use Rattle.svr_serve.specs.Ran.{OpensSession};
 
+use crate::ending::Ending;
 use std::alloc::Global;
-use svr_core::Core;
-use svr_edge::Memory;
+use svr_edge::Disk;
 use svr_lines::Lines;
 use svr_request::ReplyBuf;
+use svr_store::Store;
 
 /// How many bytes of input are read at most.
 pub const INPUT_BYTES: u64 = 1 << 40;
@@ -13,20 +16,24 @@ pub const INPUT_BYTES: u64 = 1 << 40;
 /// What is served, and the room for the lines of the input and for a reply.
 #[derive(Drop)]
 pub(crate) struct Session {
-    pub core: Core,
+    pub store: Store,
     pub lines: Lines,
     pub reply: ReplyBuf,
 }
 
 impl Session {
-    /// A session in which nothing was accepted, and nothing read.
-    pub fn new(alloc: Global) -> Result<Session, Memory>
-        ensures { IfOk result IsNew }
+    /// Takes the room, and opens the store of a disk.
+    pub fn open<D: Disk>(alloc: Global, disk: &mut D) -> Result<Session, Ending>
+        ensures opens { OpensSession result (D.view disk.old) (D.view disk.new) }
+        ensures later { (D.view disk.old).write_faults ≤ (D.view disk.new).write_faults }
+        ensures images { Leaves (D.view disk.old) (D.view disk.new) (IsHalfMade (D.view disk.old)) }
     {
+        let lines = Lines::new(alloc, INPUT_BYTES)?;
+        let reply = ReplyBuf::new(alloc)?;
         Ok(Session {
-            core: Core::empty(),
-            lines: Lines::new(alloc, INPUT_BYTES)?,
-            reply: ReplyBuf::new(alloc)?,
+            store: Store::open_store(alloc, disk)?,
+            lines,
+            reply,
         })
     }
 }

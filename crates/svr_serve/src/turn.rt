@@ -1,17 +1,17 @@
 ghost use Rattle.std.specs.Prelude.{◌≡◌, ◌⊎◌, ◌+◌, ◌<◌, ◌≤◌, ◌^◌, true, false, length, Ok, Err, None, unwrap_or};
-ghost use Rattle.std.specs.Prelude.{IfOk, OnOk, OnErr, IsOk, IfSome, IfErr, IsErrOf};
-ghost use Rattle.svr_core.specs.Run.{IsChange};
+ghost use Rattle.std.specs.Prelude.{IfOk, OnOk, IsOk, IfSome, IfErr};
 ghost use Rattle.svr_lines.specs.Reading.{taken_bytes, KnowsEnd};
 ghost use Rattle.svr_request.specs.Requests.{seen_or_refused, with_block};
-ghost use Rattle.svr_serve.specs.Layout.{EndsInput, HasReadCauses, HasTurnCauses, PrintsAnswer, PrintsReply, TurnDoes, standing};
-ghost use Rattle.svr_serve.specs.Layout.{StopsBlock, StopsReading, StopsUnanswered, TakesNext, TakesRequest, TakesWholeBlock};
+ghost use Rattle.svr_request.specs.declared.reply.Reply.{Reply};
+ghost use Rattle.svr_serve.specs.Layout.{EndsInput, HasReadCauses, StopsBlock, StopsReading, TakesNext, TakesRequest, TakesWholeBlock};
 ghost use Rattle.svr_serve.specs.Program.{streams};
+ghost use Rattle.svr_serve.specs.Turning.{Answers, HasTurnCauses, IsClosedBy, IsIdle, IsReady, Replied, StopsUnanswered, TurnDoes, standing};
 
 use crate::ending::Ending;
 use crate::output::send;
 use crate::session::Session;
 use std::alloc::Global;
-use svr_edge::{Failed, Memory, Sink, Source};
+use svr_edge::{Disk, Failed, Sink, Source};
 use svr_lines::{BlockEnd, Lines, Piece};
 use svr_request::{Asked, Refusal, Request, print_reply, read_request};
 
@@ -89,43 +89,51 @@ fn take_request<S: Source>(
     Ok(Some(asked.request))
 }
 
-/// Answers a request that was taken, with its block, and prints the reply.
-fn print_answer(
+/// Answers a request that was taken, with its block, and prints the reply, unless the reply closes the store.
+fn print_answer<D: Disk>(
     alloc: Global,
     session: &mut Session,
+    disk: &mut D,
     request: Result<Request, Refusal>,
-) -> Result<(), Memory>
-    requires changes { session.old.core.changes + 1 < 2 ^ 64 }
+) -> Result<(), Ending>
+    requires open { session.old.store.closed ≡ None }
+    requires inside { session.old.store.end < (D.view disk.old).size }
     requires few { length session.old.lines.block ≤ 8388608 }
-    ensures reply { OnOk result (PrintsAnswer (with_block (seen_or_refused request) session.old.lines.block) session.old session.new) }
-    ensures change { OnErr result (IsChange session.old.core (with_block (seen_or_refused request) session.old.lines.block)) }
+    ensures answer { (reply : Reply) × Answers (D.view disk.old) (D.view disk.new) session.old.store session.new.store
+        (with_block (seen_or_refused request) session.old.lines.block) reply
+        × OnOk result (IsReady session.new (D.view disk.new) reply) × IfErr result (λ ending. IsClosedBy ending reply) }
     ensures lines { session.new.lines ≡ session.old.lines }
 {
-    let reply = session
-        .core
-        .answer(alloc, request, session.lines.block_bytes())?;
+    let block = session.lines.block_bytes();
+    let reply = session.store.submit(alloc, disk, request, block);
+    if let Some(why) = session.store.closed() {
+        return Err(why.into());
+    }
     print_reply(&reply, &mut session.reply);
     Ok(())
 }
 
 /// Takes the next request, answers it and prints the reply. False at the end of the input.
-fn print_next<S: Source>(
+fn print_next<S: Source, D: Disk>(
     alloc: Global,
     session: &mut Session,
     input: &mut S,
+    disk: &mut D,
 ) -> Result<bool, Ending>
     requires known_end { KnowsEnd session.old.lines (S.left input.old) }
-    requires changes { session.old.core.changes + 1 < 2 ^ 64 }
-    ensures reply { result ≡ Ok true → PrintsReply (S.left input.old) (S.left input.new) session.old session.new }
+    requires open { session.old.store.closed ≡ None }
+    requires inside { session.old.store.end < (D.view disk.old).size }
+    ensures reply { result ≡ Ok true → (reply : Reply) × Replied (S.left input.old) (S.left input.new) session.old.lines session.new.lines
+        (D.view disk.old) (D.view disk.new) session.old.store session.new.store reply × IsReady session.new (D.view disk.new) reply }
     ensures end { result ≡ Ok false → EndsInput (S.left input.old) (S.left input.new) session.old.lines session.new.lines
-        × (session.new.core ≡ session.old.core) }
-    ensures stop { IfErr result (λ ending. StopsUnanswered ending
-        (S.left input.old) (S.left input.new) session.old.lines session.new.lines session.old.core session.new.core) }
+        × IsIdle (D.view disk.old) (D.view disk.new) × (session.new.store ≡ session.old.store) }
+    ensures stop { IfErr result (λ ending. StopsUnanswered ending (S.left input.old) (S.left input.new) session.old.lines session.new.lines
+        (D.view disk.old) (D.view disk.new) session.old.store session.new.store) }
     ensures causes { HasReadCauses (S.faults input.old) (S.faults input.new) session.new.lines result }
 {
     match take_request(alloc, &mut session.lines, input) {
         Ok(Some(request)) => {
-            print_answer(alloc, session, request)?;
+            print_answer(alloc, session, disk, request)?;
             Ok(true)
         }
         Ok(None) => Ok(false),
@@ -133,27 +141,30 @@ fn print_next<S: Source>(
     }
 }
 
-/// Carries one turn: takes the next request, answers it, and writes the reply and sends it on its way.
-pub(crate) fn serve_one<S: Source, O: Sink>(
+/// Carries one turn: takes the next request, answers it, and writes the reply and sends it on its way. A reply that closes
+/// the store is left to be told as the fault line.
+pub(crate) fn serve_one<S: Source, O: Sink, D: Disk>(
     alloc: Global,
     session: &mut Session,
     input: &mut S,
     output: &mut O,
+    disk: &mut D,
 ) -> Turn
     requires known_end { KnowsEnd session.old.lines (S.left input.old) }
-    requires changes { session.old.core.changes + 1 < 2 ^ 64 }
+    requires open { session.old.store.closed ≡ None }
+    requires inside { session.old.store.end < (D.view disk.old).size }
     ensures turn { TurnDoes result
         (standing (streams (S.left input.old) (S.faults input.old) (O.taken output.old) (O.sent output.old) (O.faults output.old))
-        session.old.lines session.old.core)
+        (D.view disk.old) session.old.lines session.old.store)
         (standing (streams (S.left input.new) (S.faults input.new) (O.taken output.new) (O.sent output.new) (O.faults output.new))
-        session.new.lines session.new.core) }
+        (D.view disk.new) session.new.lines session.new.store) }
     ensures causes { HasTurnCauses result
         (standing (streams (S.left input.old) (S.faults input.old) (O.taken output.old) (O.sent output.old) (O.faults output.old))
-        session.old.lines session.old.core)
+        (D.view disk.old) session.old.lines session.old.store)
         (standing (streams (S.left input.new) (S.faults input.new) (O.taken output.new) (O.sent output.new) (O.faults output.new))
-        session.new.lines session.new.core) }
+        (D.view disk.new) session.new.lines session.new.store) }
 {
-    match print_next(alloc, session, input) {
+    match print_next(alloc, session, input, disk) {
         Ok(true) => match send(output, session.reply.bytes()) {
             Ok(()) => Turn::Served,
             Err(Failed) => Turn::Stop(Ending::Output),
