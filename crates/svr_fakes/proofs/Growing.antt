@@ -6,7 +6,7 @@ use Rattle.svr_edge.specs.Disk.{IsImage, IsSettled, IsTornImage, Leaves, MayWrit
 use Rattle.svr_fakes.specs.declared.disk_call.Call.{Call}
 use Rattle.svr_fakes.specs.declared.disk_call.Call.TheVariants.{Write, Sync}
 use Rattle.svr_fakes.specs.Platter.{MayNote, Past, Platter, after_call, after_calls, noted, platter_of, whole}
-use Rattle.svr_fakes.specs.Disks.{LeavesAt, LeavesBy, MemState, Torn-same, Torn-overwritten, read_may_stay, take_whole, view_of}
+use Rattle.svr_fakes.specs.Disks.{LeavesAt, LeavesBy, Told, Torn-same, Torn-overwritten, read_may_stay, take_whole, view_told}
 
 pub after_calls-push : (p : Platter) (calls : List Call) (call : Call) → after_calls p (calls ++ call ∷ []) ≡ after_call (after_calls p calls) call
 after_calls-push p [] call = refl
@@ -55,11 +55,11 @@ now_since past t image le left = (
   subst (λ (cs : List Call). LeavesBy (after_calls (whole past.first) cs) image) (sym (take_whole past.calls)) left,
 )
 
-pub by_now : (d : MemState) (image : List ℕ) → IsImage (view_of d) image → LeavesBy (platter_of d.past) image
+pub by_now : (d : Told) (image : List ℕ) → IsImage (view_told d) image → LeavesBy (platter_of d.past) image
 by_now d image left = subst (λ (cs : List Call). LeavesBy (after_calls (whole d.past.first) cs) image) (take_all left.0 d.past.calls left.1) left.3
 
-module _ (d e : MemState) where
-  leaves_same : (P : List ℕ → Type 0) → e.past ≡ d.past → Leaves (view_of d) (view_of e) P
+module _ (d e : Told) where
+  leaves_same : (P : List ℕ → Type 0) → e.past ≡ d.past → Leaves (view_told d) (view_told e) P
   leaves_same P is = record {
     later = omega (arith, ap (λ (p : Past). length p.calls) is);
     each = λ t image le left. inl (subst (λ (p : Past). (n : ℕ) × (t ≤ n) × (n ≤ length p.calls) × LeavesAt p n image) is left);
@@ -67,7 +67,7 @@ module _ (d e : MemState) where
 
   leaves_noted : (call : Call) (P : List ℕ → Type 0) → e.past ≡ noted d.past call
       → ((image : List ℕ) → LeavesBy (after_call (platter_of d.past) call) image → LeavesBy (platter_of d.past) image ⊎ P image)
-      → Leaves (view_of d) (view_of e) P
+      → Leaves (view_told d) (view_told e) P
   leaves_noted call P is new =
       let size : length (noted d.past call).calls ≡ length d.past.calls + 1 = length-append d.past.calls (call ∷ []) in
       record {
@@ -80,13 +80,13 @@ module _ (d e : MemState) where
 
   pub leaves_by : (call : Call) (P : List ℕ → Type 0) → MayNote d.past e.past call
       → ((image : List ℕ) → LeavesBy (after_call (platter_of d.past) call) image → LeavesBy (platter_of d.past) image ⊎ P image)
-      → Leaves (view_of d) (view_of e) P
+      → Leaves (view_told d) (view_told e) P
   leaves_by call P m new = ⊎_elim (leaves_same P) (λ is. leaves_noted call P is new) m
 
   -- a call that changes no byte
   pub stays_by : (call : Call) → MayNote d.past e.past call → ((p : Platter) → (after_call p call).read ≡ p.read)
       → ((image : List ℕ) → LeavesBy (after_call (platter_of d.past) call) image → LeavesBy (platter_of d.past) image)
-      → Stays (view_of d) (view_of e)
+      → Stays (view_told d) (view_told e)
   stays_by call m same images =
       let read : (platter_of e.past).read ≡ (platter_of d.past).read =
       ⊎_elim (λ is. ap (λ (p : Past). (platter_of p).read) is)
@@ -102,10 +102,10 @@ module _ (d e : MemState) where
   synced p true reads image left = subst (λ (xs : List ℕ). LeavesBy p xs) (sym left) reads
   synced p false reads image left = left
 
-  pub stays_synced : (done : Bool) → MayNote d.past e.past (Sync done) → Stays (view_of d) (view_of e)
+  pub stays_synced : (done : Bool) → MayNote d.past e.past (Sync done) → Stays (view_told d) (view_told e)
   stays_synced done m = stays_by (Sync done) m (λ p. refl) (synced (platter_of d.past) done (read_may_stay (whole d.past.first) d.past.calls refl))
 
-  settled : e.past ≡ noted d.past (Sync true) → IsSettled (view_of e)
+  settled : e.past ≡ noted d.past (Sync true) → IsSettled (view_told e)
   settled is = λ bytes image told left.
       let p = platter_of d.past in
       let now : platter_of e.past ≡ after_call p (Sync true) = ap platter_of is ∙ platter_noted d.past (Sync true) in
@@ -113,18 +113,18 @@ module _ (d e : MemState) where
       let reads : (platter_of e.past).read ≡ bytes = cc in
       there ∙ sym (ap (λ (q : Platter). q.read) now) ∙ reads
 
-  pub settled_by : (done : Bool) → e.past ≡ noted d.past (Sync done) → done ≡ true → IsSettled (view_of e)
+  pub settled_by : (done : Bool) → e.past ≡ noted d.past (Sync done) → done ≡ true → IsSettled (view_told e)
   settled_by true is e = settled is
   settled_by false is e = absurd (false≢true e)
 
   -- a write
   pub leaves_written : (at : ℕ) (piece : List ℕ) (done : Bool) → MayNote d.past e.past (Write at piece done)
-      → Leaves (view_of d) (view_of e) (IsTornImage (view_of d) at (length piece))
-  leaves_written at piece done m = leaves_by (Write at piece done) (IsTornImage (view_of d) at (length piece)) m
+      → Leaves (view_told d) (view_told e) (IsTornImage (view_told d) at (length piece))
+  leaves_written at piece done m = leaves_by (Write at piece done) (IsTornImage (view_told d) at (length piece)) m
       (λ image left. inr (left.0, now_since d.past (length d.past.calls) left.0 (omega arith) left.1, left.2))
 
   read_written : (at : ℕ) (piece : List ℕ) → e.past ≡ noted d.past (Write at piece true) → at ≤ length (platter_of d.past).read
-      → Writes (view_of d) (view_of e) at piece
+      → Writes (view_told d) (view_told e) at piece
   read_written at piece is inside =
       let xs = (platter_of d.past).read in
       let read : (platter_of e.past).read ≡ overwritten xs at piece =
@@ -136,18 +136,18 @@ module _ (d e : MemState) where
 
   -- a write that may have failed
   pub may_write : (at : ℕ) (piece : List ℕ) (done : Bool) → MayNote d.past e.past (Write at piece done) → at ≤ length (platter_of d.past).read
-      → MayWrite (view_of d) (view_of e) at (length piece)
+      → MayWrite (view_told d) (view_told e) at (length piece)
   may_write at piece done m inside =
       ⊎_elim (λ is. same (ap (λ (p : Past). (platter_of p).read) is)) (λ is. by_done done is) m
     where
-      same : (platter_of e.past).read ≡ (platter_of d.past).read → MayWrite (view_of d) (view_of e) at (length piece)
+      same : (platter_of e.past).read ≡ (platter_of d.past).read → MayWrite (view_told d) (view_told e) at (length piece)
       same read = record {
         no_smaller = omega (arith, ap length read);
         no_larger = omega (arith, ap length read);
         content = subst (λ (ys : List ℕ). Torn at (length piece) (platter_of d.past).read ys) (sym read) (Torn-same at (length piece) (platter_of d.past).read);
       }
 
-      by_done : (done : Bool) → e.past ≡ noted d.past (Write at piece done) → MayWrite (view_of d) (view_of e) at (length piece)
+      by_done : (done : Bool) → e.past ≡ noted d.past (Write at piece done) → MayWrite (view_told d) (view_told e) at (length piece)
       by_done true is =
           let w = read_written at piece is inside in
           let read : (platter_of e.past).read ≡ overwritten (platter_of d.past).read at piece =
@@ -160,6 +160,12 @@ module _ (d e : MemState) where
       by_done false is = same (ap (λ (p : Past). (platter_of p).read) is ∙ ap (λ (p : Platter). p.read) (platter_noted d.past (Write at piece false)))
 
   pub writes_by : (at : ℕ) (piece : List ℕ) (done : Bool) → e.past ≡ noted d.past (Write at piece done) → done ≡ true → at ≤ length (platter_of d.past).read
-      → Writes (view_of d) (view_of e) at piece
+      → Writes (view_told d) (view_told e) at piece
   writes_by at piece true is e inside = read_written at piece is inside
   writes_by at piece false is e inside = absurd (false≢true e)
+
+pub settled_now : (old new : Past) (done : Bool) → new ≡ noted old (Sync done) → done ≡ true
+    → IsSettled (view_told (record { past = new; reads = []; read_faults = 0; write_faults = 0 }))
+settled_now old new done is e =
+    let d : Told = record { past = old; reads = []; read_faults = 0; write_faults = 0 } in
+    settled_by d (record d { past = new }) done is e

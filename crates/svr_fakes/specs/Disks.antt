@@ -35,8 +35,18 @@ LeavesBy p image = MayLeave p.kept p.pending image
 abbrev pub LeavesAt : Past → ℕ → List ℕ → Type 0
 LeavesAt past count image = LeavesBy (after_calls (whole past.first) (take count past.calls)) image
 
-abbrev pub view_of : MemState → DiskView
-view_of d = record {
+-- what is told of a disk
+pub record Told : Type 0 where
+  pub past : Past
+  pub reads : List (ℕ × ℕ)
+  pub read_faults : ℕ
+  pub write_faults : ℕ
+
+abbrev pub told : MemState → Told
+told d = record { past = d.past; reads = d.reads; read_faults = d.read_faults; write_faults = d.write_faults }
+
+abbrev pub view_told : Told → DiskView
+view_told d = record {
   size = length (platter_of d.past).read;
   content = Some (platter_of d.past).read;
   trace = Some d.reads;
@@ -45,6 +55,10 @@ view_of d = record {
   read_faults = d.read_faults;
   write_faults = d.write_faults;
 }
+
+-- a disk in memory as a disk
+abbrev pub view_of : MemState → DiskView
+view_of d = view_told (told d)
 
 -- no call of a kind so far, and none asked to fail
 abbrev pub no_calls : Count

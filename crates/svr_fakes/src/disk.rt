@@ -2,7 +2,7 @@ ghost use Rattle.std.specs.Prelude.{true, false, ◌≡◌, ◌⊎◌, ◌≤◌
 ghost use Rattle.svr_edge.specs.Disk.{IsSettled, IsTornImage, Leaves, MayWrite, ReadCause, Reads, Stays, WriteCause, Writes, traced};
 ghost use Rattle.svr_fakes.specs.DiskCalls.{asked_next};
 ghost use Rattle.svr_fakes.specs.Disks.{DoesLen, DoesRead, DoesSync, DoesWrite, IsCrash, after_ask, mem_laws, new_disk, view_of};
-ghost use Rattle.svr_fakes.specs.Platter.{noted, platter_of};
+ghost use Rattle.svr_fakes.specs.Platter.{MayNote, noted, platter_of};
 
 use crate::counter::raise;
 use crate::disk_call::{Call, Count, DiskCall, Torn};
@@ -29,6 +29,7 @@ fn note_read(
 ) -> bool
     ensures noted { result ≡ true → (history.new ≡ noted history.old Call.Read) × (reads.new.items ≡ reads.old.items ++ (at, count) ∷ []) }
     ensures not_noted { result ≡ false → (history.new ≡ history.old) × (reads.new.items ≡ reads.old.items) }
+    ensures may { MayNote history.old history.new Call.Read }
     ensures read { (platter_of history.new).read ≡ (platter_of history.old).read }
 {
     if reads.push((at, count)).is_err() {
@@ -141,6 +142,7 @@ impl Disk for MemDisk {
     }
 
     fn read_at(&mut self, at: u64, into: &mut [u8]) -> Result<(), Failed>
+        requires { at + length into.old ≤ (view_of self.old).size }
         ensures bytes { OnOk result ((bytes : List ℕ) → Reads (view_of self.old) bytes → into.new ≡ take (length into.old) (drop at bytes)) }
         ensures stays { Stays (view_of self.old) (view_of self.new) }
         ensures trace { OnOk result ((view_of self.new).trace ≡ traced (view_of self.old).trace at (length into.old)) }
@@ -160,6 +162,8 @@ impl Disk for MemDisk {
     }
 
     fn write_at(&mut self, at: u64, bytes: &[u8]) -> Result<(), Failed>
+        requires inside { at ≤ (view_of self.old).size }
+        requires fits { at + length bytes.now ≤ 2 ^ 40 }
         ensures ok { OnOk result (Writes (view_of self.old) (view_of self.new) at bytes.now) }
         ensures err { OnErr result (MayWrite (view_of self.old) (view_of self.new) at (length bytes.now)) }
         ensures images { Leaves (view_of self.old) (view_of self.new) (IsTornImage (view_of self.old) at (length bytes.now)) }
