@@ -21,12 +21,7 @@ fn copy_part(bytes: &[u8], from: usize, into: &mut [u8])
 }
 
 /// Notes a read, and answers whether memory sufficed.
-fn note_read(
-    history: &mut History,
-    reads: &mut Vec<(u64, u64)>,
-    at: u64,
-    count: u64,
-) -> bool
+fn note_read(history: &mut History, reads: &mut Vec<(u64, u64)>, at: u64, count: u64) -> bool
     ensures noted { result ≡ true → (history.new ≡ noted history.old Call.Read) × (reads.new.items ≡ reads.old.items ++ (at, count) ∷ []) }
     ensures not_noted { result ≡ false → (history.new ≡ history.old) × (reads.new.items ≡ reads.old.items) }
     ensures may { MayNote history.old history.new Call.Read }

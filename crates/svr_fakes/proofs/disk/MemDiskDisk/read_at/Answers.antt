@@ -1,4 +1,4 @@
-use Rattle.std.proofs.Common.{refl, ap, length, sym, ◌∙◌, arith, ◌≡◌}
+use Rattle.std.proofs.Common.{refl, ap, length, ◌∙◌, arith, ◌≡◌}
 use Rattle.svr_fakes.specs.declared.disk_call.Call.TheVariants.{Read}
 use Rattle.svr_fakes.specs.Platter.{platter_of}
 use Rattle.svr_fakes.proofs.Growing.{stays_by}

@@ -1,5 +1,5 @@
-use Rattle.std.proofs.Common.{◌≡◌, ◌∙◌, rules}
-use Rattle.svr_fakes.specs.Platter.{after_calls, bytes_now, whole}
+use Rattle.std.proofs.Common.{◌≡◌, rules}
+use Rattle.svr_fakes.specs.Platter.{after_calls, whole}
 use Rattle.svr_fakes.proofs.Growing.{kept_beside, written_done, written_not}
 use Rattle.svr_fakes.proofs.history.History.try_write.Goals as goal
 
