@@ -141,6 +141,9 @@ fn a_disk_keeps_its_calls_and_images(rt: HostRuntime) -> Result<(), Fail> {
     let has_reads = disk.reads() == READS;
     let fails_once = fails_once(&mut MemDisk::new(BYTES.to_vec(rt.alloc())?, Vec::new(rt.alloc())));
     let is_whole = wrong.is_none() && wrong_image.is_none() && has_reads && fails_once;
-    assert!(rt; is_whole, "{wrong:?} {wrong_image:?} {has_reads} {fails_once}");
+    assert!(rt;
+        is_whole,
+        "{wrong:?} {wrong_image:?} {has_reads} {fails_once}"
+    );
     Ok(())
 }

@@ -42,6 +42,9 @@ fn a_file_keeps_what_is_written(rt: HostRuntime) -> Result<(), Fail> {
     let is_file = bytes.as_slice() == b"aXYde123".as_slice();
     let fails_always = fails_always(&rt);
     fs::remove_file(&rt, PATH)?;
-    assert!(rt; takes_all && gives_all && is_file && fails_always, "{takes_all} {gives_all} {is_file} {fails_always}");
+    assert!(rt;
+        takes_all && gives_all && is_file && fails_always,
+        "{takes_all} {gives_all} {is_file} {fails_always}"
+    );
     Ok(())
 }
