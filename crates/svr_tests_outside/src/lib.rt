@@ -1,7 +1,11 @@
-//! What no session shows of the crates below requests: sources and sinks in memory call by call, texts and lists, lines of
-//! an input of which few bytes may be taken, searches of a plain listing, and exact numbers at their ends.
+//! What no session shows of the crates below requests: sources, sinks and disks in memory call by call, a disk over a file, texts
+//! and lists, lines of an input of which few bytes may be taken, searches of a plain listing, and exact numbers at their ends.
 #![tactic(auto)]
 
+#[cfg(test)]
+mod disks;
+#[cfg(test)]
+mod files;
 #[cfg(test)]
 mod lines;
 #[cfg(test)]

@@ -1,5 +1,6 @@
 use crate::piece::{LineEnd, Piece};
 use std::num::NonZeroU32;
+use svr_fakes::DiskCall;
 
 /// A line of a script.
 #[derive(Clone, Copy)]
@@ -14,9 +15,21 @@ pub enum Line<'a> {
     Words(&'a str),
     Input(Piece<'a>),
     Output(Piece<'a>),
+    /// Bytes of the disk at first.
+    Disk(Piece<'a>),
+    /// Bytes that the disk has to hold behind the run.
+    Holds(Piece<'a>),
+    /// The disk is as the run before left it.
+    SameDisk,
     Setting(Setting),
+    /// What is written below is what has to be written where so many changes are there.
+    Changes(u64),
     /// The lines above are a run.
     Run,
+    /// The lines above are a run over each image of a crash in the run before.
+    Crashes,
+    /// The lines above are a run over the disk of the run before, cut to each length from one to another.
+    Cuts(u64, u64),
 }
 
 /// How a run is made, or what it has to come to.
@@ -34,6 +47,12 @@ pub enum Setting {
     Status(u8),
     /// How often the input has to be read.
     Reads(u32),
+    /// The number of a call of the disk that fails, from 1, each kind apart.
+    FailDisk(DiskCall, NonZeroU32),
+    /// How often the disk has to be read, beside the reads of a run without input.
+    DiskReads(u32),
+    /// How often the disk may be read.
+    MostDiskReads(u32),
 }
 
 /// The line that a text is, if it is one.
@@ -48,13 +67,35 @@ pub fn read_line(text: &str) -> Option<Line<'_>> {
     if let Some(kind) = word.strip_prefix('<') {
         return Some(Line::Output(read_piece(kind, rest)?));
     }
+    if let Some(kind) = word.strip_prefix('@') {
+        return Some(Line::Disk(read_piece(kind, rest)?));
+    }
+    if let Some(kind) = word.strip_prefix('=') {
+        return Some(Line::Holds(read_piece(kind, rest)?));
+    }
     match word {
         "text" => read_text(rest),
         "pieces" => Some(Line::Pieces(rest)),
         "words" => Some(Line::Words(rest)),
-        "run" if rest.is_empty() => Some(Line::Run),
+        "cuts" => read_cuts(rest),
+        "changes" => Some(Line::Changes(rest.parse().ok()?)),
+        _ if rest.is_empty() => read_word(word),
         _ => Some(Line::Setting(read_setting(word, rest)?)),
     }
+}
+
+fn read_word(word: &str) -> Option<Line<'_>> {
+    match word {
+        "run" => Some(Line::Run),
+        "same-disk" => Some(Line::SameDisk),
+        "crashes" => Some(Line::Crashes),
+        _ => None,
+    }
+}
+
+fn read_cuts(rest: &str) -> Option<Line<'_>> {
+    let (from, to) = rest.split_once(' ')?;
+    Some(Line::Cuts(from.parse().ok()?, to.parse().ok()?))
 }
 
 fn read_text(rest: &str) -> Option<Line<'_>> {
@@ -84,6 +125,21 @@ fn read_setting(word: &str, number: &str) -> Option<Setting> {
         "fail-flush" => Some(Setting::FailFlush(number.parse().ok()?)),
         "status" => Some(Setting::Status(number.parse().ok()?)),
         "reads" => Some(Setting::Reads(number.parse().ok()?)),
+        "disk-reads" => Some(Setting::DiskReads(number.parse().ok()?)),
+        "most-disk-reads" => Some(Setting::MostDiskReads(number.parse().ok()?)),
+        _ => Some(Setting::FailDisk(
+            read_disk_call(word)?,
+            number.parse().ok()?,
+        )),
+    }
+}
+
+fn read_disk_call(word: &str) -> Option<DiskCall> {
+    match word {
+        "fail-disk-len" => Some(DiskCall::Len),
+        "fail-disk-read" => Some(DiskCall::Read),
+        "fail-disk-write" => Some(DiskCall::Write),
+        "fail-disk-sync" => Some(DiskCall::Sync),
         _ => None,
     }
 }

@@ -1,9 +1,11 @@
-//! Plays scripts of sessions through the program's top call, over a source and a sink in memory, and prints a line for each.
+//! Plays scripts of sessions through the program's top call, over a source, a sink and a disk in memory, and prints a line for each.
 //! README.md says how a script is written. The scripts, and the file `scripts` that names them, are in the folder that the first
 //! argument names, or where the program runs.
 #![tactic(auto)]
 
 mod case;
+mod crash;
+mod disk;
 mod line;
 mod piece;
 mod play;

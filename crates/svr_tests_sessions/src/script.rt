@@ -1,9 +1,10 @@
 use crate::case::Case;
+use crate::crash::play_crashes;
+use crate::disk::{Played, play_over_disk};
 use crate::line::{Line, read_line};
 use crate::piece::Texts;
-use crate::play::play;
 use crate::report::Report;
-use crate::run::Run;
+use crate::run::{Over, Run};
 use std::alloc::{AllocError, Global};
 use std::num::NonZeroU32;
 
@@ -105,13 +106,38 @@ fn play_runs(
     piece: NonZeroU32,
     report: &mut Report,
 ) -> Result<(), AllocError> {
+    let mut last: Option<Played<'_>> = None;
     for run in runs {
         report.count_run();
-        let outcome = play(alloc, run, piece)?;
-        if !outcome.is_wanted_by(run) {
-            let what = outcome.difference(alloc, run, piece)?;
+        let wrong = match run.over {
+            Over::Disk => {
+                let played = play_over_disk(alloc, run, last.as_ref(), piece)?;
+                let wrong = played.wrong(alloc, piece)?;
+                last = Some(played);
+                wrong
+            }
+            _ => play_again(alloc, run, last.as_ref(), piece)?,
+        };
+        if let Some(what) = wrong {
             report.complain(place, what.as_str())?;
         }
     }
     Ok(())
+}
+
+/// Makes a run over what the run before left, and answers what is wrong, if anything is.
+fn play_again(
+    alloc: Global,
+    run: &Run,
+    last: Option<&Played<'_>>,
+    piece: NonZeroU32,
+) -> Result<Option<String>, AllocError> {
+    let Some(last) = last else {
+        return Ok(Some(String::from_str(alloc, "no run stands before")?));
+    };
+    match run.over {
+        Over::Crashes => play_crashes(alloc, last, run, piece),
+        Over::Cuts(from, to) => last.play_cuts(alloc, run, piece, from, to),
+        Over::Disk => Ok(None),
+    }
 }
