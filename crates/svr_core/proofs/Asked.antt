@@ -5,7 +5,7 @@ use Rattle.svr_request.specs.Requests.{Wanted}
 use Rattle.svr_core.specs.declared.plan.Plan.{Plan}
 use Rattle.svr_core.specs.Outcomes.{Outcome, wanted_outcome}
 use Rattle.svr_core.specs.State.{Catalog}
-use Rattle.svr_core.specs.Steps.{Plans}
+use Rattle.svr_core.specs.Plans.{Plans}
 
 pub Plans-set : (w : Wanted) (block : List ℕ) {set : Option Catalog} {now : Catalog} {o : Outcome} {r : Result Plan Refusal}
     → set ≡ Some now → o ≡ wanted_outcome (Some now) w block → Plans o (Some now) r → Plans (wanted_outcome set w block) set r
