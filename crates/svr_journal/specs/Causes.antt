@@ -1,5 +1,5 @@
 -- Why the calls of a journal fail.
-use Rattle.std.specs.Prelude.{◌≡◌, ◌≤◌, ℕ, Result, Err}
+use Rattle.std.specs.Prelude.{◌≡◌, ◌≤◌, Result, Err}
 use Rattle.svr_edge.specs.Causes.{Rose}
 use Rattle.svr_edge.specs.Disk.{DiskView, Stays}
 use Rattle.svr_journal.specs.Opening.{AnyRose, CountsKept}

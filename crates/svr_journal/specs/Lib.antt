@@ -6,3 +6,5 @@ pub mod Gates
 pub mod Keeping
 pub mod Place
 pub mod Opening
+pub mod Window
+pub mod Staging

@@ -1,11 +1,15 @@
-ghost use Rattle.std.specs.Prelude.{◌≡◌, ◌≤◌, ◌<◌, ◌+◌, ◌^◌, ◌↔◌, ◌++◌, ◌∷◌, [], ℕ, List, min, length, take, drop, Err, IfOk, IfErr, OnOk, OnErr, IsErrOf, IsTrue, MatchOption, Contains};
+ghost use Rattle.std.specs.Prelude.{◌≡◌, ◌≤◌, ◌<◌, ◌+◌, ◌^◌, ◌↔◌, ◌++◌, ◌∷◌, [], ℕ, List, min, length, take, drop, Err, IfOk, IfErr, OnOk, OnErr, IsTrue, MatchOption, Contains};
 ghost use Rattle.svr_edge.specs.Causes.{Rose};
-ghost use Rattle.svr_edge.specs.Disk.{IsSettled, Leaves, ReadCause, Reads, Stays};
+ghost use Rattle.svr_edge.specs.Disk.{IsSettled, IsTornImage, Leaves, Reads, Stays, WriteCause};
+ghost use Rattle.svr_journal.specs.Ahead.{IsAhead};
+ghost use Rattle.svr_journal.specs.Causes.{OpenCauses, ReadsAlone};
 ghost use Rattle.svr_journal.specs.File.{StandsFor, StandsForSome, end_of};
 ghost use Rattle.svr_journal.specs.Gates.{FitsBehind, NextAnswers, found_of, first_gate, gate_of};
-ghost use Rattle.svr_journal.specs.Opening.{AnyRose, CountsKept, OpenAnswers, opened_bytes};
+ghost use Rattle.svr_journal.specs.Opening.{OpenAnswers, opened_bytes};
 ghost use Rattle.svr_journal.specs.Keeping.{IsSafe, IsStored};
+ghost use Rattle.svr_journal.specs.Staging.{IsStaged};
 
+use crate::ahead::ReadAhead;
 use crate::faults::{AppendFault, JournalError};
 use crate::frame::Frame;
 use std::marker::Model;
@@ -72,38 +76,46 @@ impl Journal {
         ensures reads { (D.view disk.new).read_faults ≡ (D.view disk.old).read_faults }
         ensures trace { (D.view disk.new).trace ≡ (D.view disk.old).trace }
     {
-        let bytes = frame.bytes();
-        let length = bytes.len() as u64 - 5;
+        let length = frame.body_bytes();
         if !fits(self.end, length) {
             return Err(AppendFault::Full);
         }
-        write_synced(disk, self.end + 1, bytes)?;
-        write_synced(disk, self.end, &[1])?;
+        stage(disk, self.end, frame)?;
+        open_gate(disk, self.end, length)?;
         let address = self.end + 5;
         self.end = address + length;
         Ok(address)
     }
 }
 
-impl Journal {
-    /// Appends records one after the other, until one is refused.
-    pub fn append_all<D: Disk>(&mut self, disk: &mut D, frames: &[Frame]) -> Result<(), AppendFault>
-        requires { self.old.end < (D.view disk.old).size }
-        ensures size { OnOk result (self.new.end < (D.view disk.new).size) }
-        ensures stored { (bodies : List (List ℕ)) → IsStored (D.view disk.old) self.old.end bodies
-            → OnOk result (IsStored (D.view disk.new) self.new.end (bodies ++ frames.now)) }
-        ensures any_moment { (bodies : List (List ℕ)) → IsStored (D.view disk.old) self.old.end bodies → IsSafe (D.view disk.old) bodies
-            → Leaves (D.view disk.old) (D.view disk.new) (StandsForSome bodies frames.now) }
-        ensures safe { (bodies : List (List ℕ)) → IsStored (D.view disk.old) self.old.end bodies → IsSafe (D.view disk.old) bodies
-            → OnOk result (IsSafe (D.view disk.new) (bodies ++ frames.now)) }
-        ensures write { result ≡ Err AppendFault.Write → Rose (D.view disk.old).write_faults (D.view disk.new).write_faults }
-        ensures later { (D.view disk.old).write_faults ≤ (D.view disk.new).write_faults }
-    {
-        for frame in frames {
-            self.append(disk, frame)?;
-        }
-        Ok(())
-    }
+/// Writes a record behind the closed gate at a place, and syncs. Whenever a crash comes, the records from before stand, and no other.
+fn stage<D: Disk>(disk: &mut D, end: u64, frame: &Frame) -> Result<(), Failed>
+    requires inside { end < (D.view disk.old).size }
+    requires fits { end + 6 + length frame.now ≤ 2 ^ 40 }
+    ensures kept { (bodies : List (List ℕ)) → end ≡ end_of bodies → IsSafe (D.view disk.old) bodies
+        → Leaves (D.view disk.old) (D.view disk.new) (λ image. StandsFor image bodies) }
+    ensures staged { (bodies : List (List ℕ)) → IsStored (D.view disk.old) end bodies
+        → OnOk result (IsStaged (D.view disk.new) end bodies frame.now) }
+    ensures size { OnOk result (end + 6 + length frame.now ≤ (D.view disk.new).size) }
+    ensures cause { WriteCause (D.view disk.old) (D.view disk.new) result }
+{
+    write_synced(disk, end + 1, frame.bytes())
+}
+
+/// Opens the closed gate at a place, and syncs. Whenever a crash comes, the record behind it is there or not.
+fn open_gate<D: Disk>(disk: &mut D, end: u64, count: u64) -> Result<(), Failed>
+    requires inside { end + 6 + count ≤ (D.view disk.old).size }
+    requires fits { end + 6 + count ≤ 2 ^ 40 }
+    ensures torn { (bodies : List (List ℕ)) (body : List ℕ) → IsStaged (D.view disk.old) end bodies body
+        → Leaves (D.view disk.old) (D.view disk.new) (StandsForSome bodies (body ∷ [])) }
+    ensures stored { (bodies : List (List ℕ)) (body : List ℕ) → IsStaged (D.view disk.old) end bodies body → count ≡ length body
+        → OnOk result (IsStored (D.view disk.new) (end + 5 + count) (bodies ++ body ∷ [])) }
+    ensures safe { (bodies : List (List ℕ)) (body : List ℕ) → IsStaged (D.view disk.old) end bodies body
+        → OnOk result (IsSafe (D.view disk.new) (bodies ++ body ∷ [])) }
+    ensures size { OnOk result (end + 6 + count ≤ (D.view disk.new).size) }
+    ensures cause { WriteCause (D.view disk.old) (D.view disk.new) result }
+{
+    write_synced(disk, end, &[1])
 }
 
 /// What stands at a gate.
@@ -137,94 +149,74 @@ fn look(head: &[u8], left: u64) -> Found
 }
 
 /// Reads what stands at the gate at a place.
-fn read_gate<D: Disk>(disk: &mut D, place: u64, size: u64) -> Result<Found, Failed>
-    requires { size ≡ (D.view disk.old).size }
+fn read_gate<D: Disk>(
+    disk: &mut D,
+    ahead: &mut ReadAhead,
+    place: u64,
+    size: u64,
+) -> Result<Found, JournalError>
+    requires size { size ≡ (D.view disk.old).size }
+    requires ahead { IsAhead ahead.old (D.view disk.old) }
     ensures found { (bytes : List ℕ) → Reads (D.view disk.old) bytes → IfOk result (λ found. found_of (gate_of (drop place bytes)) ≡ found) }
     ensures fits { IfOk result (FitsBehind place size) }
-    ensures stays { Stays (D.view disk.old) (D.view disk.new) }
-    ensures cause { ReadCause (D.view disk.old) (D.view disk.new) result }
+    ensures journal { IfErr result (λ e. Contains (JournalError.Device ∷ JournalError.Memory ∷ []) e) }
+    ensures ahead { IsAhead ahead.new (D.view disk.new) }
+    ensures reads { ReadsAlone (D.view disk.old) (D.view disk.new) result }
 {
     if size <= place {
         return Ok(Found::Broken);
     }
     let left = size - place;
-    let mut room = [0; 5];
-    let head = &mut room[..left.min(5) as usize];
-    disk.read_at(place, head)?;
-    Ok(look(head, left))
-}
-
-/// Reads so many bytes from a place on, in place of those that are there.
-fn refill<D: Disk>(
-    disk: &mut D,
-    at: u64,
-    count: u64,
-    body: &mut Vec<u8>,
-) -> Result<(), JournalError>
-    requires { at + count ≤ (D.view disk.old).size }
-    ensures bytes { (bytes : List ℕ) → Reads (D.view disk.old) bytes → OnOk result (body.new.items ≡ take count (drop at bytes)) }
-    ensures count { OnOk result (length body.new.items ≡ count) }
-    ensures journal { IfErr result (λ e. Contains (JournalError.Device ∷ JournalError.Memory ∷ []) e) }
-    ensures stays { Stays (D.view disk.old) (D.view disk.new) }
-    ensures device { result ≡ Err JournalError.Device → Rose (D.view disk.old).read_faults (D.view disk.new).read_faults }
-    ensures later { (D.view disk.old).read_faults ≤ (D.view disk.new).read_faults }
-    ensures writes { (D.view disk.new).write_faults ≡ (D.view disk.old).write_faults }
-{
-    body.clear();
-    body.resize(count as usize, 0)?;
-    disk.read_at(at, body.as_mut_slice())?;
-    Ok(())
+    let count = left.min(5);
+    ahead.cover(disk, place, count, size)?;
+    Ok(look(ahead.piece(place, count), left))
 }
 
 impl Journal {
-    /// Reads the next record into `body`, and answers the address of its body; `None` at the closed gate.
+    /// Finds the next record, whose body `ahead` then gives, and answers the address of its body; `None` at the closed gate.
     pub fn next<D: Disk>(
         &mut self,
         disk: &mut D,
-        body: &mut Vec<u8>,
+        ahead: &mut ReadAhead,
     ) -> Result<Option<u64>, JournalError>
-        requires { self.old.size ≡ (D.view disk.old).size }
+        requires size { self.old.size ≡ (D.view disk.old).size }
+        requires ahead { IsAhead ahead.old (D.view disk.old) }
         ensures answer { (bytes : List ℕ) → Reads (D.view disk.old) bytes
-            → NextAnswers (gate_of (drop self.old.end bytes)) self.old.end result body.new.items }
+            → NextAnswers (gate_of (drop self.old.end bytes)) self.old.end result ahead.new.body }
         // The bodies that the disk stands for come in order.
         ensures in_order { (bytes : List ℕ) (done left : List (List ℕ)) → Reads (D.view disk.old) bytes → StandsFor bytes (done ++ left)
-            → self.old.end ≡ end_of done → NextAnswers (first_gate left) self.old.end result body.new.items }
+            → self.old.end ≡ end_of done → NextAnswers (first_gate left) self.old.end result ahead.new.body }
         ensures found { IfOk result (λ found. MatchOption found ((self.new ≡ self.old) × (self.old.end < self.old.size))
-            (λ at. (at ≡ self.old.end + 5) × (self.new ≡ record self.old { end = at + length body.new.items }) × (self.new.end ≤ self.new.size))) }
+            (λ at. (at ≡ self.old.end + 5) × (self.new ≡ record self.old { end = at + length ahead.new.body }) × (self.new.end ≤ self.new.size))) }
         ensures err { OnErr result (self.new ≡ self.old) }
-        ensures stays { Stays (D.view disk.old) (D.view disk.new) }
-        ensures device { result ≡ Err JournalError.Device → Rose (D.view disk.old).read_faults (D.view disk.new).read_faults }
-        ensures later { (D.view disk.old).read_faults ≤ (D.view disk.new).read_faults }
-        ensures writes { (D.view disk.new).write_faults ≡ (D.view disk.old).write_faults }
+        ensures ahead { IsAhead ahead.new (D.view disk.new) }
+        ensures reads { ReadsAlone (D.view disk.old) (D.view disk.new) result }
     {
-        self.step(disk, body)
+        self.step(disk, ahead)
     }
-}
 
-impl Journal {
-    // Reads the record at the next gate, whatever the bytes are.
+    /// Finds the record at the next gate, whatever the bytes are.
     fn step<D: Disk>(
         &mut self,
         disk: &mut D,
-        body: &mut Vec<u8>,
+        ahead: &mut ReadAhead,
     ) -> Result<Option<u64>, JournalError>
-        requires { self.old.size ≡ (D.view disk.old).size }
+        requires size { self.old.size ≡ (D.view disk.old).size }
+        requires ahead { IsAhead ahead.old (D.view disk.old) }
         ensures answer { (bytes : List ℕ) → Reads (D.view disk.old) bytes
-            → NextAnswers (gate_of (drop self.old.end bytes)) self.old.end result body.new.items }
+            → NextAnswers (gate_of (drop self.old.end bytes)) self.old.end result ahead.new.body }
         ensures found { IfOk result (λ found. MatchOption found ((self.new ≡ self.old) × (self.old.end < self.old.size))
-            (λ at. (at ≡ self.old.end + 5) × (self.new ≡ record self.old { end = at + length body.new.items }) × (self.new.end ≤ self.new.size))) }
+            (λ at. (at ≡ self.old.end + 5) × (self.new ≡ record self.old { end = at + length ahead.new.body }) × (self.new.end ≤ self.new.size))) }
         ensures err { OnErr result (self.new ≡ self.old) }
-        ensures stays { Stays (D.view disk.old) (D.view disk.new) }
-        ensures device { result ≡ Err JournalError.Device → Rose (D.view disk.old).read_faults (D.view disk.new).read_faults }
-        ensures later { (D.view disk.old).read_faults ≤ (D.view disk.new).read_faults }
-        ensures writes { (D.view disk.new).write_faults ≡ (D.view disk.old).write_faults }
+        ensures ahead { IsAhead ahead.new (D.view disk.new) }
+        ensures reads { ReadsAlone (D.view disk.old) (D.view disk.new) result }
     {
-        match read_gate(disk, self.end, self.size)? {
+        match read_gate(disk, ahead, self.end, self.size)? {
             Found::Shut => Ok(None),
             Found::Broken => Err(JournalError::NotAJournal { at: self.end }),
             Found::Record(length) => {
                 let address = self.end + 5;
-                refill(disk, address, length, body)?;
+                ahead.find_body(disk, address, length, self.size)?;
                 self.end = address + length;
                 Ok(Some(address))
             }
@@ -242,8 +234,9 @@ impl Journal {
         ensures content { (bytes : List ℕ) → Reads (D.view disk.old) bytes → OnOk result (Reads (D.view disk.new) (opened_bytes bytes)) }
         ensures settled { OnOk result (IsSettled (D.view disk.new)) }
         ensures stays { 0 < (D.view disk.old).size → Stays (D.view disk.old) (D.view disk.new) }
-        ensures device { result ≡ Err JournalError.Device → AnyRose (D.view disk.old) (D.view disk.new) }
-        ensures counts { CountsKept (D.view disk.old) (D.view disk.new) }
+        // Of an empty disk a crash may leave anything in the first nine bytes.
+        ensures images { Leaves (D.view disk.old) (D.view disk.new) (IsTornImage (D.view disk.old) 0 9) }
+        ensures causes { OpenCauses (D.view disk.old) (D.view disk.new) result }
     {
         disk.sync()?;
         let size = disk.len()?;

@@ -1,0 +1,22 @@
+use Rattle.std.proofs.Common.{◌+◌, ◌++◌, ◌∷◌, [], ap}
+use Rattle.std.proofs.lemmas.Result.{on_ok_weaker}
+use Rattle.svr_edge.specs.Disk.{IsSettled, Writes}
+use Rattle.svr_journal.specs.Keeping.{IsSafe}
+use Rattle.svr_journal.proofs.Answered.{on_both}
+use Rattle.svr_journal.proofs.Appended.{leaves_opened, safe_more, stored_more}
+use Rattle.svr_journal.proofs.journal.open_gate.Goals as goal
+
+pub returns-clause-torn : goal.returns-clause-torn
+returns-clause-torn g c = λ bodies body staged. leaves_opened _ _ bodies body c.args.end staged c.write_synced.ensures.images
+
+pub returns-clause-stored : goal.returns-clause-stored
+returns-clause-stored g c = λ bodies body staged size.
+    on_ok_weaker c.write_synced.result (λ wrote. stored_more _ _ bodies body c.args.end staged wrote (c.args.end + 5 + c.args.count) (ap (λ n. c.args.end + 5 + n) size))
+    c.write_synced.ensures.ok
+
+pub returns-clause-safe : goal.returns-clause-safe
+returns-clause-safe g c = λ bodies body staged.
+    let old = g.D.Disk.view c.args.disk.now in
+    let new = g.D.Disk.view c.write_synced.new.disk in
+    on_both (Writes old new c.args.end (1 ∷ [])) (IsSettled new) (IsSafe new (bodies ++ body ∷ [])) c.write_synced.result
+    (safe_more old new bodies body c.args.end staged) c.write_synced.ensures.ok c.write_synced.ensures.settled
