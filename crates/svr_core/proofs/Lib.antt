@@ -8,3 +8,4 @@ pub mod Mapped
 pub mod Planned
 pub mod Replayed
 pub mod Searched
+pub mod SoFar

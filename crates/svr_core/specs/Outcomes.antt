@@ -111,8 +111,8 @@ unless_row_refused None later = later
 
 -- rows are inserted, one after the other, or none; the record is that of the load
 abbrev pub rows_outcome : Catalog → ℕ → Record → List Row → Outcome
-rows_outcome c table load rows = unless_row_refused (load_refusal c.tables table rows)
-    (changes_to (record { schema = c.schema; tables = inserted c.tables table rows }) load)
+rows_outcome c table kept rows = unless_row_refused (load_refusal c.tables table rows)
+    (changes_to (record { schema = c.schema; tables = inserted c.tables table rows }) kept)
 
 abbrev pub unless_bad_record : Result (List Row) ℕ → (List Row → Outcome) → Outcome
 unless_bad_record (Err n) later = refused (refusal.BadCsv n)

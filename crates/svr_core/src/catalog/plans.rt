@@ -110,6 +110,7 @@ impl Catalog {
     /// The insert of a row that values make.
     fn insertion(&self, alloc: Global, name: &str, given: Items<Given>) -> Result<Change, Refusal>
         ensures change { IfOk result (λ change. insert_outcome self.now name.now given ≡ change_outcome self.now change) }
+        ensures id { IfOk result DeletesId }
         ensures refused { IfErr result (MayRefuse (insert_outcome self.now name.now given)) }
     {
         let table = self.table(name)?;
@@ -120,6 +121,7 @@ impl Catalog {
     /// The update of a row to the one that values make.
     fn replacement(&self, alloc: Global, name: &str, given: Items<Given>) -> Result<Change, Refusal>
         ensures change { IfOk result (λ change. update_outcome self.now name.now given ≡ change_outcome self.now change) }
+        ensures id { IfOk result DeletesId }
         ensures refused { IfErr result (MayRefuse (update_outcome self.now name.now given)) }
     {
         let table = self.table(name)?;
