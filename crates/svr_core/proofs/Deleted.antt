@@ -4,16 +4,23 @@ use Rattle.std.proofs.Common.{refl, sym, ap, ◌∙◌, ⊎_elim, arith}
 use Rattle.std.specs.List.{All}
 use Rattle.std.specs.Option.{is_some}
 use Rattle.std.proofs.lemmas.Bool.Decides.{nat_tests}
+use Rattle.std.proofs.lemmas.List.{length-map}
 use Rattle.std.proofs.lemmas.Option.{slice_get_cases}
+use Rattle.svr_record.specs.declared.record.Record.TheVariants as entry
+use Rattle.svr_request.specs.declared.refusal.Refusal.TheVariants as refusal
 use Rattle.svr_rows.specs.declared.change.Change.TheVariants.{Delete}
 use Rattle.svr_rows.specs.declared.change.RowRefusal.TheVariants.{NoRow}
 use Rattle.svr_rows.specs.declared.row.Row.{Row}
-use Rattle.svr_rows.specs.Changes.{refusal_at, refusal_of, refuse_if}
+use Rattle.svr_rows.specs.Changes.{changed, refusal_at, refusal_of, refuse_if}
 use Rattle.svr_rows.specs.Kept.{IsTableRows}
-use Rattle.svr_rows.specs.Rows.{HasId, IsRowOf, TableRows, has_row, id_of, kinds_at, kinds_in, row_at, rows_at, rows_in}
+use Rattle.svr_rows.specs.Rows.{HasId, IsRowOf, TableRows, has_row, id_of, kinds_at, kinds_in, kinds_of, row_at, rows_at, rows_in}
 use Rattle.svr_rows.proofs.ById.{is_some-row_at}
 use Rattle.svr_rows.proofs.Fits.{HasId-from_fits}
 use Rattle.svr_rows.proofs.Sums.{IsTableRows-at}
+use Rattle.svr_schema.specs.declared.schema.Schema.{Schema}
+use Rattle.svr_view.specs.View.{AreTablesOf}
+use Rattle.svr_core.specs.Outcomes.{change_outcome, changes_to, refused, unless_refused}
+use Rattle.svr_core.specs.State.{Catalog}
 
 is_same : (a b : ℕ) → (a == b) ≡ true → a ≡ b
 is_same a b e = grind (arith, nat_tests, e)
@@ -53,3 +60,13 @@ has_id_if (Some t) tables place row e within lawful h = HasId-from_fits t.kinds 
 pub HasId-in_table : (tables : List TableRows) (place : ℕ) (row : Row) → place < length tables → All IsTableRows tables
     → IsRowOf (kinds_in tables place) row → HasId row
 HasId-in_table tables place row within lawful h = has_id_if (slice_get tables place) tables place row refl within lawful h
+
+-- the tables of a catalog are those of its schema
+pub length-tables : (s : Schema) (tables : List TableRows) → AreTablesOf s tables → length tables ≡ length s.tables
+length-tables s tables h = sym (length-map tables (λ t. t.kinds)) ∙ ap length h.kinds ∙ length-map s.tables kinds_of
+
+pub change_outcome-no_row : (c : Catalog) (place id : ℕ) → place < length c.tables → row_at (rows_in c.tables place) id ≡ None
+    → change_outcome c (Delete place id) ≡ refused refusal.NoRow
+change_outcome-no_row c place id within h =
+    let after : Catalog = record { schema = c.schema; tables = changed c.tables (Delete place id) } in
+    ap (λ r. unless_refused r (changes_to after (entry.Change (Delete place id)))) (refusal_of-no_row c.tables place id within h)

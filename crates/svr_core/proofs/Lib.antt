@@ -9,3 +9,4 @@ pub mod Planned
 pub mod Replayed
 pub mod Searched
 pub mod SoFar
+pub mod Written

@@ -50,7 +50,7 @@ IsEdit-change c made h =
 
 pub IsEntry-change : (c : Catalog) (made : Change) (body : List ℕ) → refusal_of c.tables made ≡ None → IsRecord (entry.Change made)
     → body ≡ body_of (entry.Change made) → IsEntry (change_outcome c made) (Some c) (record { edit = edit.Change made; body = body })
-unfolding entry_outcome
+unfolding entry_outcome IsEdit-change
 IsEntry-change c made body h is_record is = record {
   edit = IsEdit-change c made h;
   is_record = is_record;
@@ -86,14 +86,14 @@ rows_by (Err n) c after table load e h = absurd (let k : refused (refusal.BadCsv
 rows_by (Ok rows) c after table load e h =
     rows_if (load_refusal c.tables table rows) (record { schema = c.schema; tables = inserted c.tables table rows }) after load e h
 
-placed : (c : Catalog) (table : ℕ) (header : Bool) (block : List ℕ) → table < length c.tables
+placed : (c : Catalog) (table : ℕ) (header : Bool) (block : List ℕ) → table < length c.schema.tables
     → placed_outcome c table header block ≡ block_outcome c table header block
 placed c table header block h =
-    let there : nat_lt table (length c.tables) ≡ true = grind (arith, nat_tests, h) in
+    let there : nat_lt table (length c.schema.tables) ≡ true = grind (arith, nat_tests, h) in
     rw there refl
 
 pub IsEntry-load : (c : Catalog) (table : ℕ) (header : Bool) (block : List ℕ) (e : Edit) (body : List ℕ)
-    → IsEdit (block_outcome c table header block) (Some c) e → table < length c.tables → length block ≤ 8388608
+    → IsEdit (block_outcome c table header block) (Some c) e → table < length c.schema.tables → length block ≤ 8388608
     → body ≡ body_of (entry.Load table header block)
     → IsEntry (block_outcome c table header block) (Some c) (record { edit = e; body = body })
 unfolding entry_outcome

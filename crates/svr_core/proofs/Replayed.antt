@@ -1,5 +1,5 @@
 -- One record more that is read again.
-use Rattle.std.proofs.Common.{◌≡◌, ℕ, ◌+◌, ◌×◌, List, [], ◌∷◌, ◌++◌, length, drop, Option, Some, None, Result, Ok, Err}
+use Rattle.std.proofs.Common.{◌≡◌, ℕ, ◌+◌, List, [], ◌∷◌, ◌++◌, length, drop, Option, Some, None, Result, Ok, Err}
 use Rattle.std.proofs.Common.{refl, sym, ap, ◌∙◌, arith, length-append}
 use Rattle.std.specs.Int.{to_be_bytes, w32}
 use Rattle.std.specs.List.{flat_map}
@@ -39,19 +39,19 @@ pub replayed-none : (s : Served) → replayed s [] ≡ Some s
 unfolding replayed
 replayed-none s = refl
 
--- what is served after a body that says a record
-pub after_body-accepted : (s : Served) (body : List ℕ) (entry made : Record) (c : Catalog) → record_in body ≡ Some entry
-    → entry_outcome s.catalog entry ≡ changes_to c made → after_body s body ≡ Some (with_catalog s c)
-after_body-accepted s body entry made c says is =
-    ap (option_and_then (after_record s)) says ∙ ap (λ o. option_map (with_catalog s) (catalog_by o)) is
+numbered_by : (s next : Served) (c : Option Catalog) → option_map (with_catalog s) c ≡ Some next → next.changes ≡ s.changes + 1
+numbered_by s next None h = absurd (let e : None ≡ Some next = h in cc)
+numbered_by s next (Some c) h =
+    let same : with_catalog s c ≡ next = let e : Some (with_catalog s c) ≡ Some next = h in cc in
+    ap (λ t. t.changes) (sym same)
 
-pub after_body-refused : (s : Served) (body : List ℕ) (entry : Record) (why : Refusal) → record_in body ≡ Some entry
-    → entry_outcome s.catalog entry ≡ refused why → after_body s body ≡ None
-after_body-refused s body entry why says is =
-    ap (option_and_then (after_record s)) says ∙ ap (λ o. option_map (with_catalog s) (catalog_by o)) is
+numbered_if : (s next : Served) (o : Option Record) → option_and_then (after_record s) o ≡ Some next → next.changes ≡ s.changes + 1
+numbered_if s next None h = absurd (let e : None ≡ Some next = h in cc)
+numbered_if s next (Some entry) h = numbered_by s next (catalog_by (entry_outcome s.catalog entry)) h
 
-pub after_body-none : (s : Served) (body : List ℕ) → record_in body ≡ None → after_body s body ≡ None
-after_body-none s body says = ap (option_and_then (after_record s)) says
+-- a record more is a change more
+pub after_body-numbered : (s next : Served) (body : List ℕ) → after_body s body ≡ Some next → next.changes ≡ s.changes + 1
+after_body-numbered s next body h = numbered_if s next (record_in body) h
 
 -- ---- places
 

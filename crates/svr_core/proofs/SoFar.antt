@@ -4,21 +4,34 @@ use Rattle.std.proofs.Common.{refl, sym, ap, ◌∙◌, subst, arith}
 use Rattle.svr_edge.specs.Causes.{Rose}
 use Rattle.svr_edge.specs.Disk.{DiskView, Reads, Stays}
 use Rattle.svr_edge.proofs.DiskLemmas.{Leaves-refl, Stays-trans}
+use Rattle.svr_journal.specs.Ahead.{Ahead, IsAhead}
 use Rattle.svr_journal.specs.Causes.{ReadsAlone}
 use Rattle.svr_journal.specs.File.{end_of}
 use Rattle.svr_journal.specs.Gates.{Gate, NextAnswers, broken, gate_of, record_of, shut}
 use Rattle.svr_journal.specs.Place.{Place}
 use Rattle.svr_journal.specs.declared.faults.JournalError.{JournalError}
 use Rattle.svr_journal.specs.declared.faults.JournalError.TheVariants as error
-use Rattle.svr_core.specs.Replay.{HasGates, IsAtFault, IsRefusedAt, Replays, after_body, replayed}
+use Rattle.svr_core.specs.declared.replay.ReplayFault.{ReplayFault}
+use Rattle.svr_core.specs.declared.replay.ReplayFault.TheVariants as fault
+use Rattle.svr_core.specs.Replay.{HasGates, IsAtFault, IsRefusedAt, after_body, replayed}
 use Rattle.svr_core.specs.State.{Served, empty}
-use Rattle.svr_core.proofs.Replayed.{HasGates-more, end_of-more, next_closed, next_record, replayed-more, replayed-none}
+use Rattle.svr_core.specs.Steps.{error_at}
+use Rattle.svr_core.proofs.Replayed.{HasGates-more, after_body-numbered, end_of-more, next_closed, next_record, replayed-more, replayed-none}
 
 -- the disk is as it was, and no count has fallen
 pub record IsRead (old new : DiskView) : Type 0 where
   pub stays : Stays old new
   pub later : old.read_faults ≤ new.read_faults
   pub writes : new.write_faults ≡ old.write_faults
+
+-- nothing was read ahead
+pub IsAhead-none : (a : Ahead) (disk : DiskView) → a ≡ record { at = 0; bytes = []; body = [] } → IsAhead a disk
+IsAhead-none a disk is = λ bytes reads. rw is refl
+
+-- a record that isn't taken, as an error of the journal
+pub error_at-faulted : (gate at : ℕ) (why : ReplayFault) → error_at gate why ≡ error.NotAJournal at → (why ≡ fault.Refused) × (at ≡ gate)
+error_at-faulted gate at fault.Refused e = (refl, let k : error.NotAJournal gate ≡ error.NotAJournal at = e in cc)
+error_at-faulted gate at fault.Memory e = absurd (let k : error.Memory ≡ error.NotAJournal at = e in cc)
 
 pub IsRead-none : (disk : DiskView) → IsRead disk disk
 IsRead-none disk = record {
@@ -35,18 +48,6 @@ IsRead-more old mid new result first second = record {
   later = omega (arith, first.later, second.later);
   writes = second.writes ∙ first.writes;
 }
-
--- the step that fails, or the last
-pub ReadsAlone-more : {T U : Type 0} (old mid new : DiskView) (result : Result T JournalError) (last : Result U JournalError)
-    → (last ≡ Err error.Device → result ≡ Err error.Device) → IsRead old mid → ReadsAlone mid new result → ReadsAlone old new last
-ReadsAlone-more old mid new result last why first second =
-    let all = IsRead-more old mid new result first second in
-    record {
-      stays = all.stays;
-      device = λ e. let rose : Rose mid.read_faults new.read_faults = second.device (why e) in omega (arith, rose, first.later);
-      later = all.later;
-      writes = all.writes;
-    }
 
 -- the records up to the place of the journal are accepted, and give what is served
 pub record SoFar (disk : DiskView) (core : Served) (journal : Place) : Type 0 where
@@ -73,14 +74,14 @@ module _ (disk mid : DiskView) (core : Served) (old : Place) (so_far : SoFar dis
     there : (bytes : List ℕ) → Reads disk bytes → gate_of (drop old.end bytes) ≡ record_of body
     there bytes reads = next_record (gate_of (drop old.end bytes)) old.end found body (answer bytes (read.stays.content ∙ reads))
 
-    pub SoFar-more : (next : Served) (new : Place) → after_body core body ≡ Some next → next.changes ≡ core.changes + 1
+    pub SoFar-more : (next : Served) (new : Place) → after_body core body ≡ Some next
         → new ≡ record { end = old.end + 5 + length body; size = old.size } → SoFar disk next new
-    SoFar-more next new gives numbered is = rw is (record {
+    SoFar-more next new gives is = rw is (record {
         bodies = so_far.bodies ++ body ∷ [];
         gives = replayed-more empty so_far.bodies body core so_far.gives ∙ gives;
         at_end = ap (λ n. n + 5 + length body) so_far.at_end ∙ sym (end_of-more so_far.bodies body);
         gates = λ bytes reads. HasGates-more bytes 8 so_far.bodies body old.end (so_far.gates bytes reads) (there bytes reads);
-        numbers = omega (arith, numbered, so_far.numbers);
+        numbers = omega (arith, after_body-numbered core next body gives, so_far.numbers);
         size = so_far.size;
       })
 
@@ -95,7 +96,7 @@ module _ (disk mid : DiskView) (core : Served) (old : Place) (so_far : SoFar dis
     }
 
   -- a gate without a whole record behind it
-  pub fault_at_gate : (bytes : List ℕ) → Reads disk bytes → gate_of (drop old.end bytes) ≡ broken → IsAtFault bytes old.end
+  fault_at_gate : (bytes : List ℕ) → Reads disk bytes → gate_of (drop old.end bytes) ≡ broken → IsAtFault bytes old.end
   fault_at_gate bytes reads is = record {
     bodies = so_far.bodies;
     served = core;
@@ -104,13 +105,10 @@ module _ (disk mid : DiskView) (core : Served) (old : Place) (so_far : SoFar dis
     refused = subst (IsRefusedAt core) (sym is) tt;
   }
 
-  -- the closed gate
-  pub Replays-closed : (body : List ℕ) → ((bytes : List ℕ) → Reads mid bytes → NextAnswers (gate_of (drop old.end bytes)) old.end (Ok None) body)
-      → Replays disk old.end core
-  Replays-closed body answer = record {
-    bodies = so_far.bodies;
-    gives = so_far.gives;
-    at_end = so_far.at_end;
-    gates = so_far.gates;
-    closed = λ bytes reads. next_closed (gate_of (drop old.end bytes)) old.end body (answer bytes (read.stays.content ∙ reads));
-  }
+  -- the step to the next record tells that
+  pub fault_at_next : (result : Result (Option ℕ) JournalError) (body : List ℕ)
+      → ((bytes : List ℕ) → Reads mid bytes → NextAnswers (gate_of (drop old.end bytes)) old.end result body)
+      → (at : ℕ) (bytes : List ℕ) → result ≡ Err (error.NotAJournal at) → Reads disk bytes → IsAtFault bytes at
+  fault_at_next result body answer at bytes e reads =
+      let told = subst (λ r. NextAnswers (gate_of (drop old.end bytes)) old.end r body) e (answer bytes (read.stays.content ∙ reads)) in
+      subst (IsAtFault bytes) (sym told.1) (fault_at_gate bytes reads told.0)

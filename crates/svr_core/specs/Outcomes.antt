@@ -178,7 +178,7 @@ text_outcome c (Some d) = schema_outcome c d
 
 -- a load into the table at a place, if there is one
 abbrev pub placed_outcome : Catalog → ℕ → Bool → List ℕ → Outcome
-placed_outcome c table header block = if nat_lt table (length c.tables) then block_outcome c table header block else refused refusal.NoTable
+placed_outcome c table header block = if nat_lt table (length c.schema.tables) then block_outcome c table header block else refused refusal.NoTable
 
 -- what comes of a record; those of merges aren't served as yet
 unfoldable pub entry_outcome : Option Catalog → Record → Outcome

@@ -70,7 +70,8 @@ impl Catalog {
         ensures within { IfSome result (λ n. n < 2 ^ 63) }
         ensures none { result ≡ None → change_outcome self.now (Change.Delete table id) ≡ refused Refusal.NoRow }
     {
-        self.contents.tables.row(table, id).map(id_in)
+        let row = self.contents.tables.row(table, id)?;
+        Some(id_in(row))
     }
 
     /// To make a change, unless a row refuses it.
