@@ -77,8 +77,3 @@ pub next_record : (gate : Gate) (at found : ℕ) (body : List ℕ) → NextAnswe
 next_record shut at found body h = absurd (let e : Some found ≡ None = h in cc)
 next_record broken at found body h = absurd h
 next_record (record_of b) at found body h = ap record_of (sym h.1)
-
-pub next_closed : (gate : Gate) (at : ℕ) (body : List ℕ) → NextAnswers gate at (Ok None) body → gate ≡ shut
-next_closed shut at body h = refl
-next_closed broken at body h = absurd h
-next_closed (record_of b) at body h = absurd (let e : None ≡ Some (at + 5) = h.0 in cc)

@@ -11,12 +11,9 @@ use Rattle.svr_journal.specs.Gates.{Gate, NextAnswers, broken, gate_of, record_o
 use Rattle.svr_journal.specs.Place.{Place}
 use Rattle.svr_journal.specs.declared.faults.JournalError.{JournalError}
 use Rattle.svr_journal.specs.declared.faults.JournalError.TheVariants as error
-use Rattle.svr_core.specs.declared.replay.ReplayFault.{ReplayFault}
-use Rattle.svr_core.specs.declared.replay.ReplayFault.TheVariants as fault
 use Rattle.svr_core.specs.Replay.{HasGates, IsAtFault, IsRefusedAt, after_body, replayed}
 use Rattle.svr_core.specs.State.{Served, empty}
-use Rattle.svr_core.specs.Steps.{error_at}
-use Rattle.svr_core.proofs.Replayed.{HasGates-more, after_body-numbered, end_of-more, next_closed, next_record, replayed-more, replayed-none}
+use Rattle.svr_core.proofs.Replayed.{HasGates-more, after_body-numbered, end_of-more, next_record, replayed-more, replayed-none}
 
 -- the disk is as it was, and no count has fallen
 pub record IsRead (old new : DiskView) : Type 0 where
@@ -27,11 +24,6 @@ pub record IsRead (old new : DiskView) : Type 0 where
 -- nothing was read ahead
 pub IsAhead-none : (a : Ahead) (disk : DiskView) → a ≡ record { at = 0; bytes = []; body = [] } → IsAhead a disk
 IsAhead-none a disk is = λ bytes reads. rw is refl
-
--- a record that isn't taken, as an error of the journal
-pub error_at-faulted : (gate at : ℕ) (why : ReplayFault) → error_at gate why ≡ error.NotAJournal at → (why ≡ fault.Refused) × (at ≡ gate)
-error_at-faulted gate at fault.Refused e = (refl, let k : error.NotAJournal gate ≡ error.NotAJournal at = e in cc)
-error_at-faulted gate at fault.Memory e = absurd (let k : error.Memory ≡ error.NotAJournal at = e in cc)
 
 pub IsRead-none : (disk : DiskView) → IsRead disk disk
 IsRead-none disk = record {
@@ -69,10 +61,13 @@ SoFar-none disk journal is = rw is (record {
   })
 
 module _ (disk mid : DiskView) (core : Served) (old : Place) (so_far : SoFar disk core old) (read : IsRead disk mid) where
-  module _ (found : ℕ) (body : List ℕ) (answer : (bytes : List ℕ) → Reads mid bytes
-      → NextAnswers (gate_of (drop old.end bytes)) old.end (Ok (Some found)) body) where
+  module _ (found : Option ℕ) (address : ℕ) (is_some : found ≡ Some address) (body : List ℕ)
+      (answer : (bytes : List ℕ) → Reads mid bytes → NextAnswers (gate_of (drop old.end bytes)) old.end (Ok found) body) where
     there : (bytes : List ℕ) → Reads disk bytes → gate_of (drop old.end bytes) ≡ record_of body
-    there bytes reads = next_record (gate_of (drop old.end bytes)) old.end found body (answer bytes (read.stays.content ∙ reads))
+    there bytes reads =
+        next_record (gate_of (drop old.end bytes)) old.end address body
+        (subst (λ (f : Option ℕ). NextAnswers (gate_of (drop old.end bytes)) old.end (Ok f) body) is_some
+        (answer bytes (read.stays.content ∙ reads)))
 
     pub SoFar-more : (next : Served) (new : Place) → after_body core body ≡ Some next
         → new ≡ record { end = old.end + 5 + length body; size = old.size } → SoFar disk next new

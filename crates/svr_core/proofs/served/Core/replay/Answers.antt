@@ -1,10 +1,7 @@
-use Rattle.std.proofs.Common.{◌≡◌, ◌+◌, ℕ, List, length, drop, Option, Some, Ok, Err, sym, ap, ◌∙◌, subst, rules}
-use Rattle.svr_edge.specs.Disk.{Reads}
-use Rattle.svr_journal.specs.Gates.{NextAnswers, gate_of}
-use Rattle.svr_journal.specs.Place.{Place}
+use Rattle.std.proofs.Common.{◌≡◌, ◌+◌, ℕ, length, Err, sym, ap, ◌∙◌, subst, arith, rules}
 use Rattle.svr_journal.specs.declared.faults.JournalError.TheVariants as error
-use Rattle.svr_core.specs.Replay.{after_body}
-use Rattle.svr_core.proofs.SoFar.{IsAhead-none, IsRead-more, IsRead-none, SoFar, SoFar-more, SoFar-none, error_at-faulted, fault_at_next, fault_at_record}
+use Rattle.svr_core.specs.Replay.{IsAtFault, after_body}
+use Rattle.svr_core.proofs.SoFar.{IsAhead-none, IsRead-more, IsRead-none, SoFar, SoFar-more, SoFar-none, fault_at_next, fault_at_record}
 use Rattle.svr_core.proofs.served.Core.replay.Goals as goal
 
 pub loop-ahead-init : goal.loop-ahead-init
@@ -23,15 +20,12 @@ loop-ahead-preserved g c =
     let inv = c.loop-ahead.invariant in
     let old = c.loop-ahead.journal in
     let body = c.next.new.ahead.body in
-    let answer : (bytes : List ℕ) → Reads mid bytes → NextAnswers (gate_of (drop old.end bytes)) old.end (Ok (Some c.in-Some.address)) body =
-    λ bytes reads. subst (λ (f : Option ℕ). NextAnswers (gate_of (drop old.end bytes)) old.end (Ok f) body) c.in-Some.is
-    (c.in_ok-address.ensures.answer bytes reads) in
     let place : c.in-Some.address ≡ old.end + 5 = search rules in
     let moved : c.next.new.self ≡ record { end = c.in-Some.address + length body; size = old.size } = search rules in
-    let taken : after_body c.loop-ahead.core c.body.result.now ≡ Some c.take.new.self = search rules in
     record {
-      so_far = SoFar-more disk mid c.loop-ahead.core old inv.so_far inv.read c.in-Some.address body answer c.take.new.self c.next.new.self
-          (ap (after_body c.loop-ahead.core) (sym c.body.ensures) ∙ taken)
+      so_far = SoFar-more disk mid c.loop-ahead.core old inv.so_far inv.read c.in_ok-address.field-0 c.in-Some.address
+          c.in-Some.is body c.in_ok-address.ensures.answer c.take_at.new.self c.next.new.self
+          (ap (after_body c.loop-ahead.core) (sym c.body.ensures) ∙ c.in_ok-take_at.ensures.ok)
           (moved ∙ ap (λ (n : ℕ). record { end = n + length body; size = old.size }) place);
       read = IsRead-more disk mid (g.D.Disk.view c.next.new.disk) c.next.result inv.read c.next.ensures.reads;
       ahead = c.next.ensures.ahead;
@@ -44,5 +38,15 @@ returns-in_err-address-clause-fault g c = λ at bytes e reads.
     fault_at_next (g.D.Disk.view c.args.disk.now) (g.D.Disk.view c.loop-ahead.disk) c.loop-ahead.core c.loop-ahead.journal inv.so_far inv.read
     c.next.result c.next.new.ahead.body c.next.ensures.answer at bytes failed reads
 
-pub returns-in_err-map_err-clause-fault : goal.returns-in_err-map_err-clause-fault
-returns-in_err-map_err-clause-fault g c = let h = c.in_err-map_err.ensures in let k = c.from_residual-in_err-map_err.ensures in ?
+pub returns-in_err-take_at-clause-fault : goal.returns-in_err-take_at-clause-fault
+returns-in_err-take_at-clause-fault g c = λ at bytes e reads.
+    let inv = c.loop-ahead.invariant in
+    let old = c.loop-ahead.journal in
+    let place : c.in-Some.address ≡ old.end + 5 = search rules in
+    let failed : c.take_at.result ≡ Err (error.NotAJournal at) = search (rules, e) in
+    let told = c.take_at.ensures.fault at failed in
+    let at_gate : at ≡ old.end = omega (arith, told.0, place) in
+    subst (IsAtFault bytes) (sym at_gate)
+    (fault_at_record (g.D.Disk.view c.args.disk.now) (g.D.Disk.view c.loop-ahead.disk) c.loop-ahead.core old inv.so_far inv.read
+    c.in_ok-address.field-0 c.in-Some.address c.in-Some.is c.next.new.ahead.body c.in_ok-address.ensures.answer bytes reads
+    (ap (after_body c.loop-ahead.core) (sym c.body.ensures) ∙ told.1))
