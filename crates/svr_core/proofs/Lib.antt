@@ -1,7 +1,12 @@
 pub mod Accepted
 pub mod Asked
+pub mod Deleted
 pub mod Followed
 pub mod Loaded
 pub mod Made
 pub mod Mapped
+pub mod Planned
+pub mod Replayed
 pub mod Searched
+pub mod SoFar
+pub mod Written

@@ -111,8 +111,8 @@ unless_row_refused None later = later
 
 -- rows are inserted, one after the other, or none; the record is that of the load
 abbrev pub rows_outcome : Catalog → ℕ → Record → List Row → Outcome
-rows_outcome c table load rows = unless_row_refused (load_refusal c.tables table rows)
-    (changes_to (record { schema = c.schema; tables = inserted c.tables table rows }) load)
+rows_outcome c table kept rows = unless_row_refused (load_refusal c.tables table rows)
+    (changes_to (record { schema = c.schema; tables = inserted c.tables table rows }) kept)
 
 abbrev pub unless_bad_record : Result (List Row) ℕ → (List Row → Outcome) → Outcome
 unless_bad_record (Err n) later = refused (refusal.BadCsv n)
@@ -178,7 +178,7 @@ text_outcome c (Some d) = schema_outcome c d
 
 -- a load into the table at a place, if there is one
 abbrev pub placed_outcome : Catalog → ℕ → Bool → List ℕ → Outcome
-placed_outcome c table header block = if nat_lt table (length c.tables) then block_outcome c table header block else refused refusal.NoTable
+placed_outcome c table header block = if nat_lt table (length c.schema.tables) then block_outcome c table header block else refused refusal.NoTable
 
 -- what comes of a record; those of merges aren't served as yet
 unfoldable pub entry_outcome : Option Catalog → Record → Outcome

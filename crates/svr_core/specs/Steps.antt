@@ -6,8 +6,6 @@ use Rattle.svr_csvload.specs.declared.refusal.CsvRefusal.{CsvRefusal}
 use Rattle.svr_csvload.specs.declared.refusal.CsvRefusal.TheVariants as csv
 use Rattle.svr_journal.specs.declared.faults.JournalError.{JournalError}
 use Rattle.svr_journal.specs.declared.faults.JournalError.TheVariants as error_of
-use Rattle.svr_record.specs.Limits.{ChangeFits}
-use Rattle.svr_rows.specs.Changes.{refusal_of}
 use Rattle.svr_rows.specs.declared.change.Change.{Change}
 use Rattle.svr_rows.specs.declared.change.Change.TheVariants as change
 use Rattle.svr_rows.specs.declared.load.LoadRefusal.{LoadRefusal}
@@ -46,11 +44,6 @@ schema_refusal error.Memory = refusal.Memory
 pub record Edits (o : Outcome) (set : Option Catalog) (result : Result Edit Refusal) : Type 0 where
   pub edit : IfOk result (IsEdit o set)
   pub refused : IfErr result (MayRefuse o)
-
--- a change of the rows that no row refuses, and whose row and id can be kept
-pub record CanChange (c : Catalog) (change : Change) : Type 0 where
-  pub accepted : refusal_of c.tables change ≡ None
-  pub fits : ChangeFits change
 
 -- an id that is deleted is below 2^63
 abbrev pub DeletesId : Change → Type 0

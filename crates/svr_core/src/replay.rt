@@ -1,9 +1,9 @@
-ghost use Rattle.std.specs.Prelude.{◌≡◌, ◌+◌, ◌<◌, ◌≤◌, ◌^◌, ℕ, List, None, Err, IfOk, OnOk};
+ghost use Rattle.std.specs.Prelude.{◌≡◌, ◌≢◌, ◌+◌, ◌<◌, ◌^◌, ℕ, List, None, Some, Err, IfOk, OnOk};
 ghost use Rattle.svr_edge.specs.Disk.{Reads};
 ghost use Rattle.svr_journal.specs.Causes.{ReadsAlone};
 ghost use Rattle.svr_record.specs.Grammar.{record_in};
 ghost use Rattle.svr_record.specs.Limits.{IsRecord};
-ghost use Rattle.svr_core.specs.Replay.{IsAtFault, Replays};
+ghost use Rattle.svr_core.specs.Replay.{IsAtFault, Replays, after_body};
 ghost use Rattle.svr_core.specs.Steps.{TakesBody, error_at};
 
 use crate::served::Core;
@@ -83,6 +83,19 @@ impl Core {
         Ok(())
     }
 
+    /// The same for the record at a gate, which the error names.
+    fn take_at(&mut self, alloc: Global, gate: u64, body: &[u8]) -> Result<(), JournalError>
+        requires { self.old.changes + 1 < 2 ^ 64 }
+        ensures ok { OnOk result (after_body self.old body.now ≡ Some self.new) }
+        ensures fault { (at : ℕ) → result ≡ Err (JournalError.NotAJournal at) → (at ≡ gate) × (after_body self.old body.now ≡ None) }
+        ensures device { result ≢ Err JournalError.Device }
+    {
+        match self.take(alloc, body) {
+            Ok(()) => Ok(()),
+            Err(fault) => Err(fault.at(gate)),
+        }
+    }
+
     /// What the records of a journal give, from its first gate on, which is read to its closed gate. A record that isn't accepted in
     /// its place is answered as `NotAJournal` at its gate. After `Err` the journal is spent.
     pub fn replay<D: Disk>(
@@ -101,9 +114,7 @@ impl Core {
         let mut core = Core::empty();
         let mut ahead = ReadAhead::new(alloc);
         while let Some(address) = journal.next(disk, &mut ahead)? {
-            let gate = address - 5;
-            core.take(alloc, ahead.body())
-                .map_err(|fault| fault.at(gate))?;
+            core.take_at(alloc, address - 5, ahead.body())?;
         }
         Ok(core)
     }

@@ -1,3 +1,4 @@
 pub mod Many
 pub mod Parts
 pub mod Records
+pub mod Sizes

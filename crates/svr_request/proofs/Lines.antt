@@ -8,10 +8,10 @@ use Rattle.svr_request.specs.declared.refusal.Refusal.TheVariants.{NotJson}
 use Rattle.svr_json.specs.Parts.{◌>>=◌}
 use Rattle.svr_request.specs.Requests.{asked_by, asked_of, block_in, block_of, request_of, value_in}
 
-value_in-value : (line : List ℕ) (d : Data) → IsUtf8 line → read line ≡ Some d → value_in line ≡ Some d
+pub value_in-value : (line : List ℕ) (d : Data) → IsUtf8 line → read line ≡ Some d → value_in line ≡ Some d
 value_in-value line d u r = ap (λ b. cond b (read line) None) (is_utf8-from_IsUtf8 line u) ∙ r
 
-value_in-none : (line : List ℕ) → (IsUtf8 line → read line ≡ None) → value_in line ≡ None
+pub value_in-none : (line : List ℕ) → (IsUtf8 line → read line ≡ None) → value_in line ≡ None
 value_in-none line f =
     (elim (is_utf8 line) as (λ b. is_utf8 line ≡ b → cond b (read line) None ≡ None) [
       | true ↦ λ e. f (IsUtf8-from_is_utf8 line e)

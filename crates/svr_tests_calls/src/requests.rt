@@ -47,7 +47,7 @@ fn shown_search(alloc: Global, query: &Text, mode: Mode, k: i128) -> Result<Stri
 
 fn shown(alloc: Global, request: &Request) -> Result<String, AllocError> {
     match request {
-        Request::Schema(value) => format!(in alloc; "schema {}", value.to_string(alloc)?),
+        Request::Schema(schema) => format!(in alloc; "schema {}", schema.value.to_string(alloc)?),
         Request::Search { query, mode, k } => shown_search(alloc, query, *mode, *k),
         Request::Merge => String::from_str(alloc, "merge"),
         Request::MergeBegin => String::from_str(alloc, "begin"),

@@ -70,7 +70,8 @@ impl Catalog {
         ensures within { IfSome result (λ n. n < 2 ^ 63) }
         ensures none { result ≡ None → change_outcome self.now (Change.Delete table id) ≡ refused Refusal.NoRow }
     {
-        self.contents.tables.row(table, id).map(id_in)
+        let row = self.contents.tables.row(table, id)?;
+        Some(id_in(row))
     }
 
     /// To make a change, unless a row refuses it.
@@ -110,6 +111,7 @@ impl Catalog {
     /// The insert of a row that values make.
     fn insertion(&self, alloc: Global, name: &str, given: Items<Given>) -> Result<Change, Refusal>
         ensures change { IfOk result (λ change. insert_outcome self.now name.now given ≡ change_outcome self.now change) }
+        ensures id { IfOk result DeletesId }
         ensures refused { IfErr result (MayRefuse (insert_outcome self.now name.now given)) }
     {
         let table = self.table(name)?;
@@ -120,6 +122,7 @@ impl Catalog {
     /// The update of a row to the one that values make.
     fn replacement(&self, alloc: Global, name: &str, given: Items<Given>) -> Result<Change, Refusal>
         ensures change { IfOk result (λ change. update_outcome self.now name.now given ≡ change_outcome self.now change) }
+        ensures id { IfOk result DeletesId }
         ensures refused { IfErr result (MayRefuse (update_outcome self.now name.now given)) }
     {
         let table = self.table(name)?;
