@@ -19,7 +19,7 @@ import tempfile
 import time
 
 ROUNDS = 5
-CHANGES = 1_000
+CHANGES = 5_000
 ROWS = 200_000
 WORDS = [f"word{number}" for number in range(5_000)]
 SCHEMA = {

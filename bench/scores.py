@@ -5,12 +5,16 @@ Run it with the program's path: bench/scores.py crates/svr/out/svr
 """
 
 import json
+import os
 import random
 import subprocess
 import sys
+import tempfile
 import threading
 import time
 
+# A folder in memory, where a sync costs little.
+MEMORY = "/dev/shm" if os.path.isdir("/dev/shm") else None
 DOCUMENTS = 20_000
 UPDATES = 200_000
 SCHEMA = {
@@ -47,7 +51,8 @@ def visits(chance, count):
 
 def seconds(program, before, changes):
     """Seconds from the first byte of the changes to the last reply to them, when all that is before them is answered."""
-    child = subprocess.Popen([program, "serve"], stdin=subprocess.PIPE, stdout=subprocess.PIPE)
+    folder = tempfile.TemporaryDirectory(dir=MEMORY)
+    child = subprocess.Popen([program, "serve"], stdin=subprocess.PIPE, stdout=subprocess.PIPE, cwd=folder.name)
     child.stdin.write(before.encode())
     child.stdin.flush()
     for _ in range(3):
@@ -60,13 +65,15 @@ def seconds(program, before, changes):
     spent = time.monotonic() - start
     writer.join()
     assert child.wait() == 0 and replies.count(b"ok") == UPDATES
+    folder.cleanup()
     return spent
 
 
 def memory(program, text):
     script = "import resource,subprocess,sys; subprocess.run([sys.argv[1], 'serve'], stdin=sys.stdin, stdout=subprocess.DEVNULL, check=True); \
 print(resource.getrusage(resource.RUSAGE_CHILDREN).ru_maxrss * 1024)"
-    done = subprocess.run([sys.executable, "-c", script, program], input=text.encode(), capture_output=True, check=True)
+    with tempfile.TemporaryDirectory(dir=MEMORY) as folder:
+        done = subprocess.run([sys.executable, "-c", script, program], input=text.encode(), capture_output=True, check=True, cwd=folder)
     return int(done.stdout)
 
 
@@ -93,7 +100,7 @@ def updates(program, counts):
 
 
 def main():
-    program = sys.argv[1]
+    program = os.path.abspath(sys.argv[1])
     updates(program, (2_000, 200_000))
     chance = random.Random(1)
     before = line(op="schema", schema=SCHEMA) + load("movies", movies())

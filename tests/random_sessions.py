@@ -2,19 +2,24 @@
 """Plays random sessions through the built program, and compares its replies with those of a plain model.
 
 Run it with the program's path and how many sessions: tests/random_sessions.py crates/svr/out/svr 500
+Each session is cut at a random place: the program ends there, and starts again with the file that it left.
 
 The model keeps rows in dictionaries and computes every score anew from all rows, by the words of docs/REFERENCE.md. It knows texts of
 words in ASCII alone. Where a reply differs, the session up to there and both replies are printed.
 """
 
 import json
+import os
 import random
 import subprocess
 import sys
+import tempfile
 
 GREATEST = 2**48 - 1
 WORDS = ["rain", "man", "sun", "Purple", "RED", "sea", "sky"]
 TEXT_TABLE = "films"
+# A folder in memory, where a sync costs little.
+MEMORY = "/dev/shm" if os.path.isdir("/dev/shm") else None
 
 
 def table(name, columns):
@@ -191,6 +196,17 @@ def line(request):
     return json.dumps(request, separators=(",", ":")) + "\n"
 
 
+def replies_to(program, requests, stop):
+    """The replies of two runs over one file: the second starts with what the first has left, behind so many requests."""
+    replies = []
+    with tempfile.TemporaryDirectory(dir=MEMORY) as folder:
+        for part in requests[:stop], requests[stop:]:
+            text = "".join(part).encode()
+            done = subprocess.run([program, "serve"], input=text, capture_output=True, check=True, cwd=folder)
+            replies += [json.loads(reply) for reply in done.stdout.splitlines()]
+    return replies
+
+
 def differs(program, seed):
     chance = random.Random(seed)
     model = Model(some_schema(chance))
@@ -199,8 +215,7 @@ def differs(program, seed):
         request, reply = some_request(chance, model)
         requests.append(request)
         wanted.append(reply)
-    done = subprocess.run([program, "serve"], input="".join(requests).encode(), capture_output=True, check=True)
-    replies = [json.loads(reply) for reply in done.stdout.splitlines()]
+    replies = replies_to(program, requests, chance.randrange(len(requests) + 1))
     for place, (reply, told) in enumerate(zip(replies, wanted)):
         if reply != told:
             print("".join(requests[: place + 1]), f"seed {seed}: {reply} in place of {told}", sep="")
@@ -209,7 +224,7 @@ def differs(program, seed):
 
 
 def main():
-    program, count = sys.argv[1], int(sys.argv[2])
+    program, count = os.path.abspath(sys.argv[1]), int(sys.argv[2])
     results = [differs(program, seed) for seed in range(count)]
     faults = sum(fault for fault, _ in results)
     print(f"{count} sessions, {sum(replies for _, replies in results)} replies, {faults} faults")
