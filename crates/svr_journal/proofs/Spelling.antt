@@ -31,7 +31,12 @@ record IsTaken (n : ℕ) (rest body : List ℕ) : Type 0 where
 
 taken : (t : Bool) (n : ℕ) (rest body : List ℕ) → (nat_le 1 n && nat_le n 16777216 && nat_le n (length rest)) ≡ t
     → (if t then record_of (take n rest) else broken) ≡ record_of body → IsTaken n rest body
-taken true n rest body test is = record { is = cc; some = grind (arith, nat_tests); few = grind (arith, nat_tests); fits = grind (arith, nat_tests) }
+taken true n rest body test is = record {
+  is = cc;
+  some = grind (arith, nat_tests);
+  few = grind (arith, nat_tests);
+  fits = grind (arith, nat_tests);
+}
 taken false n rest body test is = absurd cc
 
 below : (a b c d : ℕ) → a < 256 → b < 256 → c < 256 → d < 256 → (i : ℕ) → get_or (a ∷ b ∷ c ∷ d ∷ []) i 0 < 256
@@ -48,7 +53,12 @@ record AreBytes (a b c d : ℕ) : Type 0 where
   fourth : d < 256
 
 are_bytes : (a b c d : ℕ) (rest : List ℕ) → has_word (a ∷ b ∷ c ∷ d ∷ rest) ≡ true → AreBytes a b c d
-are_bytes a b c d rest is = record { first = grind (arith, nat_tests); second = grind (arith, nat_tests); third = grind (arith, nat_tests); fourth = grind (arith, nat_tests) }
+are_bytes a b c d rest is = record {
+  first = grind (arith, nat_tests);
+  second = grind (arith, nat_tests);
+  third = grind (arith, nat_tests);
+  fourth = grind (arith, nat_tests);
+}
 
 -- four bytes are those of the number that they are
 word_is : (rest : List ℕ) → has_word rest ≡ true → to_be_bytes w32 (from_be_bytes w32 (take 4 rest)) ≡ take 4 rest
@@ -58,7 +68,8 @@ word_is (a ∷ b ∷ []) is = absurd cc
 word_is (a ∷ b ∷ c ∷ []) is = absurd cc
 word_is (a ∷ b ∷ c ∷ d ∷ rest) is =
     let bytes = are_bytes a b c d rest is in
-    be_bytes_4 (a ∷ b ∷ c ∷ d ∷ []) (from_be_bytes w32 (a ∷ b ∷ c ∷ d ∷ [])) refl (below a b c d bytes.first bytes.second bytes.third bytes.fourth) refl
+    be_bytes_4 (a ∷ b ∷ c ∷ d ∷ []) (from_be_bytes w32 (a ∷ b ∷ c ∷ d ∷ [])) refl
+    (below a b c d bytes.first bytes.second bytes.third bytes.fourth) refl
 
 -- the record of a body at a gate, and what is behind it
 pub record IsRecordOf (bytes body : List ℕ) : Type 0 where
@@ -74,7 +85,8 @@ record_behind gate rest body one is =
     let parts : rest ≡ to_be_bytes w32 (length body) ++ (body ++ drop n (drop 4 rest)) =
     sym (take-append-drop 4 rest)
     ∙ ap (λ (xs : List ℕ). xs ++ drop 4 rest) (sym (word_is rest word.0) ∙ ap (λ (k : ℕ). to_be_bytes w32 k) (sym size))
-    ∙ ap (λ (xs : List ℕ). to_be_bytes w32 (length body) ++ xs) (sym (take-append-drop n (drop 4 rest)) ∙ ap (λ (xs : List ℕ). xs ++ drop n (drop 4 rest)) there.is) in
+    ∙ ap (λ (xs : List ℕ). to_be_bytes w32 (length body) ++ xs)
+    (sym (take-append-drop n (drop 4 rest)) ∙ ap (λ (xs : List ℕ). xs ++ drop n (drop 4 rest)) there.is) in
     record {
       size = record { some = omega (arith, size, there.some); few = omega (arith, size, there.few) };
       spelled = λ next at_next.

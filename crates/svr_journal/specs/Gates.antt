@@ -1,5 +1,6 @@
 -- What stands at a gate, whatever the bytes are.
-use Rattle.std.specs.Prelude.{◌≡◌, ◌≤◌, ◌<◌, ◌+◌, ◌==◌, ◌&&◌, Bool, false, ℕ, nat_le, nat_lt, if◌then◌else◌, List, [], ◌∷◌, length, take, drop, Option, Some, None, Result, Ok, Err, ⊤}
+use Rattle.std.specs.Prelude.{◌≡◌, ◌≤◌, ◌<◌, ◌+◌, ◌==◌, ◌&&◌, Bool, false, ℕ, nat_le, nat_lt, if◌then◌else◌}
+use Rattle.std.specs.Prelude.{List, [], ◌∷◌, length, take, drop, Option, Some, None, Result, Ok, Err, ⊤}
 use Rattle.std.specs.Int.{from_be_bytes, w32}
 use Rattle.svr_journal.specs.declared.journal.Found.{Found}
 use Rattle.svr_journal.specs.declared.journal.Found.TheVariants.{Shut, Broken, Record}

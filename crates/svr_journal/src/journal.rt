@@ -1,4 +1,5 @@
-ghost use Rattle.std.specs.Prelude.{◌≡◌, ◌≤◌, ◌<◌, ◌+◌, ◌^◌, ◌↔◌, ◌++◌, ◌∷◌, [], ℕ, List, min, length, take, drop, Err, IfOk, IfErr, OnOk, OnErr, IsTrue, MatchOption, Contains};
+ghost use Rattle.std.specs.Prelude.{◌≡◌, ◌≤◌, ◌<◌, ◌+◌, ◌^◌, ◌↔◌, ◌++◌, ◌∷◌, [], ℕ, List, min, length, take, drop};
+ghost use Rattle.std.specs.Prelude.{Err, IfOk, IfErr, OnOk, OnErr, IsTrue, MatchOption, Contains};
 ghost use Rattle.svr_edge.specs.Causes.{Rose};
 ghost use Rattle.svr_edge.specs.Disk.{IsSettled, IsTornImage, Leaves, Reads, Stays, WriteCause};
 ghost use Rattle.svr_journal.specs.Ahead.{IsAhead};

@@ -5,7 +5,8 @@ use Rattle.svr_journal.specs.File.{StandsForSome, end_of}
 use Rattle.svr_journal.specs.Keeping.{IsSafe, IsStored}
 use Rattle.svr_store.specs.Store.{Keeps}
 
-module _ (old new : DiskView) (bodies : List (List ℕ)) (start : ℕ) (at_end : start ≡ end_of bodies) (frame body : List ℕ) (same : frame ≡ body) where
+module _ (old new : DiskView) (bodies : List (List ℕ)) (start : ℕ) (at_end : start ≡ end_of bodies)
+    (frame body : List ℕ) (same : frame ≡ body) where
   stored_there : Keeps old bodies → IsStored old start bodies
   stored_there kept = subst (λ (n : ℕ). IsStored old n bodies) (sym at_end) kept.stored
 

@@ -73,5 +73,6 @@ keeps mid new bytes bodies laws settled stays reads stands =
     let now : Reads new bytes = stays.content ∙ reads in
     record {
       stored = record { bytes = bytes; reads = now; stands = stands; at_end = refl };
-      safe = λ image left. subst (λ (xs : List ℕ). StandsFor xs bodies) (sym (settled_stays mid new laws settled stays bytes image now left)) stands;
+      safe = λ image left. subst (λ (xs : List ℕ). StandsFor xs bodies)
+          (sym (settled_stays mid new laws settled stays bytes image now left)) stands;
     }

@@ -46,7 +46,8 @@ module _ (disk : DiskView) (store : StoreValue) (s : State) (request : Submitted
   -- a refusal, or want of memory
   pub refused_submits : (why : Refusal) → MayRefuse (outcome_of s.served request) why → Submits disk disk store s request (Refused why)
   refused_submits why (inl is) = submits (Refused why) (inl (sym (ap (λ (o : Outcome). turn_by s request o) is))) refl
-  refused_submits why (inr is) = subst (λ (w : Refusal). Submits disk disk store s request (Refused w)) (sym is) (submits (Refused refusal.Memory) (inr refl) refl)
+  refused_submits why (inr is) = subst (λ (w : Refusal). Submits disk disk store s request (Refused w)) (sym is)
+      (submits (Refused refusal.Memory) (inr refl) refl)
 
   -- a journal without room
   pub full_submits : (after : Catalog) (entry : Record) → outcome_of s.served request ≡ changes_to after entry

@@ -11,7 +11,9 @@ returns-clause-torn g c = λ bodies body staged. leaves_opened _ _ bodies body c
 
 pub returns-clause-stored : goal.returns-clause-stored
 returns-clause-stored g c = λ bodies body staged size.
-    on_ok_weaker c.write_synced.result (λ wrote. stored_more _ _ bodies body c.args.end staged wrote (c.args.end + 5 + c.args.count) (ap (λ n. c.args.end + 5 + n) size))
+    let end = c.args.end in
+    on_ok_weaker c.write_synced.result
+    (λ wrote. stored_more _ _ bodies body end staged wrote (end + 5 + c.args.count) (ap (λ n. end + 5 + n) size))
     c.write_synced.ensures.ok
 
 pub returns-clause-safe : goal.returns-clause-safe

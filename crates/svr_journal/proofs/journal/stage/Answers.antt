@@ -14,6 +14,7 @@ pub returns-clause-staged : goal.returns-clause-staged
 returns-clause-staged g c = λ bodies stored.
     let old = g.D.Disk.view c.args.disk.now in
     let new = g.D.Disk.view c.write_synced.new.disk in
-    on_both (Writes old new (c.args.end + 1) (framed c.args.frame.now)) (IsSettled new) (IsStaged new c.args.end bodies c.args.frame.now) c.write_synced.result
+    on_both (Writes old new (c.args.end + 1) (framed c.args.frame.now)) (IsSettled new)
+    (IsStaged new c.args.end bodies c.args.frame.now) c.write_synced.result
     (is_staged old new bodies c.args.frame.now c.bytes.ensures.body c.args.end stored)
     (rw c.bytes.ensures.bytes at c.write_synced.ensures.ok) c.write_synced.ensures.settled

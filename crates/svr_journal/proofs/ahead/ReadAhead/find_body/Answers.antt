@@ -6,4 +6,5 @@ use Rattle.svr_journal.proofs.ahead.ReadAhead.find_body.Goals as goal
 pub returns-clause-body : goal.returns-clause-body
 returns-clause-body g c = λ bytes reads.
     ap (λ (a : Ahead). a.body) c.note_body.ensures
-    ∙ piece_stands c.cover.new.self (g.D.Disk.view c.cover.new.disk) bytes c.args.at c.args.count c.cover.ensures.ahead (c.in_ok-cover.ensures.reads.stays.content ∙ reads) c.in_ok-cover.ensures.covers
+    ∙ piece_stands c.cover.new.self (g.D.Disk.view c.cover.new.disk) bytes c.args.at c.args.count c.cover.ensures.ahead
+    (c.in_ok-cover.ensures.reads.stays.content ∙ reads) c.in_ok-cover.ensures.covers

@@ -20,10 +20,12 @@ returns-in-Ok-append-clause-submits g c = λ s request serves is.
     let same : c.in-Ok.frame ≡ c.args.entry.body = c.in-Ok.ensures ∙ c.as_slice.ensures in
     let start : StoreValue = record { served = c.self.inside.core; end = c.append.new.self.end; closed = c.self.inside.closed } in
     let fits : place + 6 + length c.in-Ok.frame ≤ 2 ^ 40 =
-    fits_unless (place + 6 + length c.in-Ok.frame) (2 ^ 40) (λ more. absurd (cc (c.in-Ok-append.ensures.full.1 more))) in
+    fits_unless (place + 6 + length c.in-Ok.frame) (2 ^ 40)
+    (λ more. absurd (cc (c.in-Ok-append.ensures.full.1 more))) in
     made_submits s request c.args.entry is old new (omega (arith, fits, ap length same, here.end))
     (any_moment old new s.bodies place here.end c.in-Ok.frame c.args.entry.body same c.append.ensures.any_moment)
-    (keeps old new s.bodies place here.end c.in-Ok.frame c.args.entry.body same c.append.new.self.end c.in-Ok-append.ensures.stored c.in-Ok-append.ensures.safe)
+    (keeps old new s.bodies place here.end c.in-Ok.frame c.args.entry.body same c.append.new.self.end
+    c.in-Ok-append.ensures.stored c.in-Ok-append.ensures.safe)
     start c.make.new.self c.make.result here.served
     (omega (arith, c.in-Ok-append.ensures.end, ap length same, here.end)) c.make.ensures
 
@@ -48,6 +50,7 @@ returns-clause-submits g c = λ s request serves is.
     let place = c.self.inside.journal.end in
     let same : c.in-Ok.frame ≡ c.args.entry.body = c.in-Ok.ensures ∙ c.as_slice.ensures in
     let fits : place + 6 + length c.in-Ok.frame ≤ 2 ^ 40 =
-    fits_unless (place + 6 + length c.in-Ok.frame) (2 ^ 40) (λ more. absurd (cc (c.in-Err-Write.ensures.full.1 more, c.in-Err-Write.field-0-is))) in
+    fits_unless (place + 6 + length c.in-Ok.frame) (2 ^ 40)
+    (λ more. absurd (cc (c.in-Err-Write.ensures.full.1 more, c.in-Err-Write.field-0-is))) in
     write_submits s request c.args.entry is old new _ (omega (arith, fits, ap length same, here.end))
     (any_moment old new s.bodies place here.end c.in-Ok.frame c.args.entry.body same c.append.ensures.any_moment)
