@@ -1,6 +1,6 @@
 -- What is planned, by its outcome.
 use Rattle.std.proofs.Common.{◌≡◌, ◌≤◌, ◌<◌, ℕ, Bool, true, false, List, length, nat_lt, if◌then◌else◌, Option, Some, None, Result, Ok, Err}
-use Rattle.std.proofs.Common.{refl, sym, ap, ap₂, ◌∙◌, subst, arith}
+use Rattle.std.proofs.Common.{refl, ap, ◌∙◌, arith}
 use Rattle.std.proofs.lemmas.Bool.Decides.{nat_tests}
 use Rattle.serde_json.specs.Data.{Data}
 use Rattle.serde_json.specs.Written.{compact_text}
@@ -8,7 +8,7 @@ use Rattle.svr_journal.specs.File.{IsBody}
 use Rattle.svr_record.specs.declared.record.Record.{Record}
 use Rattle.svr_record.specs.declared.record.Record.TheVariants as entry
 use Rattle.svr_record.specs.Bodies.{body_of}
-use Rattle.svr_record.specs.Limits.{IsChange, IsRecord, IsSchemaText}
+use Rattle.svr_record.specs.Limits.{IsRecord}
 use Rattle.svr_record.proofs.Sizes.{IsSized, change-sized, load-sized, schema-sized}
 use Rattle.svr_request.specs.declared.refusal.Refusal.{Refusal}
 use Rattle.svr_request.specs.declared.refusal.Refusal.TheVariants as refusal
@@ -24,8 +24,7 @@ use Rattle.svr_schema.specs.Lawful.{IsSchema}
 use Rattle.svr_schema.specs.Rules.{schema_in}
 use Rattle.svr_core.specs.declared.plan.Edit.{Edit}
 use Rattle.svr_core.specs.declared.plan.Edit.TheVariants as edit
-use Rattle.svr_core.specs.declared.plan.Entry.{Entry}
-use Rattle.svr_core.specs.Outcomes.{Outcome, refused, changes_to, block_outcome, by_rules, change_outcome, entry_outcome, is_plain}
+use Rattle.svr_core.specs.Outcomes.{refused, changes_to, block_outcome, by_rules, change_outcome, entry_outcome, is_plain}
 use Rattle.svr_core.specs.Outcomes.{placed_outcome, refusal_of_row, rows_outcome, schema_outcome, served_so_far, text_outcome, unless_bad_record}
 use Rattle.svr_core.specs.Outcomes.{unless_refused, unless_row_refused}
 use Rattle.svr_core.specs.Plans.{IsEdit, IsEntry}

@@ -1,5 +1,5 @@
 -- One record more that is read again.
-use Rattle.std.proofs.Common.{◌≡◌, ℕ, ◌+◌, List, [], ◌∷◌, ◌++◌, length, drop, Option, Some, None, Result, Ok, Err}
+use Rattle.std.proofs.Common.{◌≡◌, ℕ, ◌+◌, List, [], ◌∷◌, ◌++◌, length, drop, Option, Some, None, Ok}
 use Rattle.std.proofs.Common.{refl, sym, ap, ◌∙◌, arith, length-append}
 use Rattle.std.specs.Int.{to_be_bytes, w32}
 use Rattle.std.specs.List.{flat_map}
@@ -9,8 +9,7 @@ use Rattle.svr_journal.specs.File.{end_of, magic, open_record}
 use Rattle.svr_journal.specs.Gates.{Gate, NextAnswers, broken, gate_of, record_of, shut}
 use Rattle.svr_record.specs.declared.record.Record.{Record}
 use Rattle.svr_record.specs.Grammar.{record_in}
-use Rattle.svr_request.specs.declared.refusal.Refusal.{Refusal}
-use Rattle.svr_core.specs.Outcomes.{Outcome, changes_to, entry_outcome, refused}
+use Rattle.svr_core.specs.Outcomes.{entry_outcome}
 use Rattle.svr_core.specs.Replay.{HasGates, after_body, after_record, catalog_by, replayed, with_catalog}
 use Rattle.svr_core.specs.State.{Catalog, Served}
 
@@ -68,8 +67,15 @@ end_of-more bodies body =
     let parts = length-append (flat_map open_record bodies) (flat_map open_record (body ∷ [])) in
     let last = length-append (open_record body) [] in
     let piece = length-append (to_be_bytes w32 (length body)) body in
-    omega (arith, all, parts, last, piece, length-append magic (flat_map open_record bodies),
-      length-append magic (flat_map open_record (bodies ++ body ∷ [])))
+    omega (
+      arith,
+      all,
+      parts,
+      last,
+      piece,
+      length-append magic (flat_map open_record bodies),
+      length-append magic (flat_map open_record (bodies ++ body ∷ [])),
+    )
 
 -- ---- what stands at a gate
 

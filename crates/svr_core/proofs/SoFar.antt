@@ -1,13 +1,12 @@
 -- The records of a journal that were read so far.
 use Rattle.std.proofs.Common.{◌≡◌, ◌≤◌, ◌<◌, ◌+◌, ℕ, List, [], ◌∷◌, ◌++◌, length, drop, Option, Some, None, Result, Ok, Err}
 use Rattle.std.proofs.Common.{refl, sym, ap, ◌∙◌, subst, arith}
-use Rattle.svr_edge.specs.Causes.{Rose}
 use Rattle.svr_edge.specs.Disk.{DiskView, Reads, Stays}
 use Rattle.svr_edge.proofs.DiskLemmas.{Leaves-refl, Stays-trans}
 use Rattle.svr_journal.specs.Ahead.{Ahead, IsAhead}
 use Rattle.svr_journal.specs.Causes.{ReadsAlone}
 use Rattle.svr_journal.specs.File.{end_of}
-use Rattle.svr_journal.specs.Gates.{Gate, NextAnswers, broken, gate_of, record_of, shut}
+use Rattle.svr_journal.specs.Gates.{NextAnswers, broken, gate_of, record_of}
 use Rattle.svr_journal.specs.Place.{Place}
 use Rattle.svr_journal.specs.declared.faults.JournalError.{JournalError}
 use Rattle.svr_journal.specs.declared.faults.JournalError.TheVariants as error
@@ -52,13 +51,13 @@ pub record SoFar (disk : DiskView) (core : Served) (journal : Place) : Type 0 wh
 
 pub SoFar-none : (disk : DiskView) (journal : Place) → journal ≡ record { end = 8; size = disk.size } → SoFar disk empty journal
 SoFar-none disk journal is = rw is (record {
-    bodies = [];
-    gives = replayed-none empty;
-    at_end = refl;
-    gates = λ bytes reads. refl;
-    numbers = omega arith;
-    size = refl;
-  })
+  bodies = [];
+  gives = replayed-none empty;
+  at_end = refl;
+  gates = λ bytes reads. refl;
+  numbers = omega arith;
+  size = refl;
+})
 
 module _ (disk mid : DiskView) (core : Served) (old : Place) (so_far : SoFar disk core old) (read : IsRead disk mid) where
   module _ (found : Option ℕ) (address : ℕ) (is_some : found ≡ Some address) (body : List ℕ)
@@ -72,13 +71,13 @@ module _ (disk mid : DiskView) (core : Served) (old : Place) (so_far : SoFar dis
     pub SoFar-more : (next : Served) (new : Place) → after_body core body ≡ Some next
         → new ≡ record { end = old.end + 5 + length body; size = old.size } → SoFar disk next new
     SoFar-more next new gives is = rw is (record {
-        bodies = so_far.bodies ++ body ∷ [];
-        gives = replayed-more empty so_far.bodies body core so_far.gives ∙ gives;
-        at_end = ap (λ n. n + 5 + length body) so_far.at_end ∙ sym (end_of-more so_far.bodies body);
-        gates = λ bytes reads. HasGates-more bytes 8 so_far.bodies body old.end (so_far.gates bytes reads) (there bytes reads);
-        numbers = omega (arith, after_body-numbered core next body gives, so_far.numbers);
-        size = so_far.size;
-      })
+      bodies = so_far.bodies ++ body ∷ [];
+      gives = replayed-more empty so_far.bodies body core so_far.gives ∙ gives;
+      at_end = ap (λ n. n + 5 + length body) so_far.at_end ∙ sym (end_of-more so_far.bodies body);
+      gates = λ bytes reads. HasGates-more bytes 8 so_far.bodies body old.end (so_far.gates bytes reads) (there bytes reads);
+      numbers = omega (arith, after_body-numbered core next body gives, so_far.numbers);
+      size = so_far.size;
+    })
 
     -- a record that isn't accepted
     pub fault_at_record : (bytes : List ℕ) → Reads disk bytes → after_body core body ≡ None → IsAtFault bytes old.end

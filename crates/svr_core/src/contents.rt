@@ -1,4 +1,4 @@
-ghost use Rattle.std.specs.Prelude.{◌≡◌, map, vec_len, None, IfOk, OnOk};
+ghost use Rattle.std.specs.Prelude.{◌≡◌, map, None, IfOk, OnOk};
 ghost use Rattle.svr_rows.specs.Changes.{changed, inserted, load_refusal, refusal_of};
 ghost use Rattle.svr_rows.specs.Rows.{no_rows};
 ghost use Rattle.svr_schema.specs.Lawful.{IsSchema};

@@ -1,4 +1,4 @@
-use Rattle.std.proofs.Common.{◌≡◌, List, ℕ, Some, Result, Ok, Err, OnOk, ap, sym, ◌∙◌, subst}
+use Rattle.std.proofs.Common.{Result, Ok, Err, OnOk, sym, subst}
 use Rattle.serde_json.specs.View.{view}
 use Rattle.svr_record.specs.Limits.{IsSchemaText}
 use Rattle.svr_core.proofs.Written.{IsSchemaText-written, value_in-written}

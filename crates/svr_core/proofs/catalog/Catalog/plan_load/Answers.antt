@@ -18,8 +18,8 @@ returns c =
     Plans (in_table place (λ at. block_outcome now at header block)) (Some now) (Ok (plan.Change (record { edit = edit; body = body }))))
     (sym c.in_ok-table.ensures.ok)
     (record {
-        plan = IsEntry-load now table header block edit body c.in_ok-edit.ensures.edit c.in_ok-table.ensures.there c.requires
-            (c.from_vec.ensures ∙ c.in_ok-body.ensures.body);
-        short = tt;
-        refused = tt;
-      })
+      plan = IsEntry-load now table header block edit body c.in_ok-edit.ensures.edit c.in_ok-table.ensures.there c.requires
+          (c.from_vec.ensures ∙ c.in_ok-body.ensures.body);
+      short = tt;
+      refused = tt;
+    })

@@ -1,4 +1,4 @@
-use Rattle.std.proofs.Common.{◌≡◌, ◌<◌, length, None, Some, sym, ap, ◌∙◌, subst, arith, rules}
+use Rattle.std.proofs.Common.{◌≡◌, ◌<◌, length, None, sym, ap, ◌∙◌, subst, arith, rules}
 use Rattle.svr_request.specs.declared.refusal.Refusal.TheVariants as refusal
 use Rattle.svr_rows.specs.declared.change.Change.TheVariants.{Delete}
 use Rattle.svr_rows.specs.Rows.{row_at, rows_in}
