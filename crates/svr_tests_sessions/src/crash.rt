@@ -42,7 +42,7 @@ fn acknowledged_by(reply: &str) -> Option<u64> {
 }
 
 /// The moments of a run. It is made once more for each reply that acknowledges a change, and ends before it is sent.
-fn moments(alloc: Global, played: &Played<'_>, piece: NonZeroU32) -> Result<Moments, AllocError> {
+fn moments_of(alloc: Global, played: &Played<'_>, piece: NonZeroU32) -> Result<Moments, AllocError> {
     let run = played.run;
     let bytes = played.bytes.to_vec(alloc)?;
     let opened = play_part(alloc, run, piece, bytes, &[], None)?;
@@ -82,7 +82,7 @@ pub fn play_crashes(
     run: &Run,
     piece: NonZeroU32,
 ) -> Result<Option<String>, AllocError> {
-    let moments = moments(alloc, played, piece)?;
+    let moments = moments_of(alloc, played, piece)?;
     for (how, torn) in TEARS {
         let wrong = play_tears(alloc, played, &moments, run, piece, *torn)?;
         if let Some(wrong) = wrong {
