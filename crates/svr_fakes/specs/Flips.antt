@@ -1,5 +1,5 @@
 -- A disk over one in memory, of which a read may give one byte inverted.
-use Rattle.std.specs.Prelude.{◌≡◌, ℕ, ◌-◌, List, slice_index_or, slice_set, Option, Some, None, nat_le, if◌then◌else◌}
+use Rattle.std.specs.Prelude.{ℕ, ◌-◌, List, slice_index_or, slice_set, Option, None, nat_le, if◌then◌else◌}
 use Rattle.svr_edge.specs.Disk.{DiskView, IsDisk}
 use Rattle.svr_fakes.specs.Disks.{MemState, mem_laws, view_of}
 
