@@ -5,3 +5,4 @@ pub mod DiskCalls
 pub mod Platter
 pub mod Replaying
 pub mod Disks
+pub mod Flips

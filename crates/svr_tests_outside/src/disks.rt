@@ -1,7 +1,7 @@
 use std::alloc::{AllocError, Global};
 use std::test::Fail;
 use svr_edge::Disk;
-use svr_fakes::{DiskCall, MemDisk, Torn};
+use svr_fakes::{DiskCall, FlipDisk, MemDisk, Torn};
 
 /// Whether these bytes are read from a place on. A read that goes past the end is not made, and gives nothing.
 pub fn gives<D: Disk>(disk: &mut D, at: u64, wanted: &[u8]) -> bool {
@@ -131,6 +131,24 @@ fn fails_once(disk: &mut MemDisk) -> bool {
 
 fn mem_disk(alloc: Global) -> Result<MemDisk, AllocError> {
     Ok(MemDisk::new(BYTES.to_vec(alloc)?, FAIL.to_vec(alloc)?))
+}
+
+/// A disk of which no call fails.
+fn whole_disk(alloc: Global) -> Result<MemDisk, AllocError> {
+    Ok(MemDisk::new(BYTES.to_vec(alloc)?, Vec::new(alloc)))
+}
+
+/// Whether one byte is given inverted from the read on that was asked for, and no other.
+fn flips(disk: MemDisk) -> bool {
+    let mut disk = FlipDisk::new(disk);
+    disk.flip(2, 1);
+    let is_waiting = gives(&mut disk, 0, b"abcdef");
+    let is_flipped = gives(&mut disk, 0, b"ab\x9cdef") && gives(&mut disk, 2, b"\x9c");
+    let is_alone = gives(&mut disk, 0, b"ab") && gives(&mut disk, 3, b"def");
+    disk.flip(0, 0);
+    let is_last = gives(&mut disk, 0, b"\x9ebcdef");
+    let is_written = takes(&mut disk, 0, b"z") && gives(&mut disk, 0, b"\x85bcdef");
+    is_waiting && is_flipped && is_alone && is_last && is_written && disk.sync().is_ok()
 }
 
 #[test]

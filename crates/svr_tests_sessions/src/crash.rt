@@ -115,9 +115,10 @@ fn play_tears(
         match found {
             Some(found) if outcome.status == run.status => least = found,
             _ => {
-                let what = outcome.difference(alloc, run, piece)?;
-                let what = what.as_str();
-                let text = format!(in alloc; "{calls} calls, {changes} changes acknowledged, {least} found before: {what}")?;
+                let status = outcome.status;
+                let output = String::from_utf8_lossy(alloc, output)?;
+                let output = output.as_str();
+                let text = format!(in alloc; "{calls} calls, {changes} changes acknowledged, {least} found before: it ended with status {status}, and wrote:\n{output}")?;
                 return Ok(Some(text));
             }
         }
