@@ -157,11 +157,15 @@ fn a_disk_keeps_its_calls_and_images(rt: HostRuntime) -> Result<(), Fail> {
     let wrong = first_wrong(&mut disk);
     let wrong_image = first_wrong_image(rt.alloc(), &disk);
     let has_reads = disk.reads() == READS;
-    let fails_once = fails_once(&mut MemDisk::new(BYTES.to_vec(rt.alloc())?, Vec::new(rt.alloc())));
-    let is_whole = wrong.is_none() && wrong_image.is_none() && has_reads && fails_once;
-    assert!(rt;
-        is_whole,
-        "{wrong:?} {wrong_image:?} {has_reads} {fails_once}"
-    );
+    let is_whole = wrong.is_none() && wrong_image.is_none() && has_reads;
+    assert!(rt; is_whole, "{wrong:?} {wrong_image:?} {has_reads}");
+    Ok(())
+}
+
+#[test]
+fn a_disk_fails_and_flips_where_it_is_asked_to(rt: HostRuntime) -> Result<(), Fail> {
+    let fails_once = fails_once(&mut whole_disk(rt.alloc())?);
+    let flips = flips(whole_disk(rt.alloc())?);
+    assert!(rt; fails_once && flips, "{fails_once} {flips}");
     Ok(())
 }

@@ -42,7 +42,11 @@ fn acknowledged_by(reply: &str) -> Option<u64> {
 }
 
 /// The moments of a run. It is made once more for each reply that acknowledges a change, and ends before it is sent.
-fn moments_of(alloc: Global, played: &Played<'_>, piece: NonZeroU32) -> Result<Moments, AllocError> {
+fn moments_of(
+    alloc: Global,
+    played: &Played<'_>,
+    piece: NonZeroU32,
+) -> Result<Moments, AllocError> {
     let run = played.run;
     let bytes = played.bytes.to_vec(alloc)?;
     let opened = play_part(alloc, run, piece, bytes, &[], None)?;
@@ -56,9 +60,7 @@ fn moments_of(alloc: Global, played: &Played<'_>, piece: NonZeroU32) -> Result<M
             let flush = Some(place as u64 + 1);
             let bytes = played.bytes.to_vec(alloc)?;
             let part = play_part(alloc, run, piece, bytes, run.input.as_slice(), flush)?;
-            moments
-                .acknowledged
-                .push((part.disk.calls(), number))?;
+            moments.acknowledged.push((part.disk.calls(), number))?;
         }
     }
     Ok(moments)
@@ -118,7 +120,9 @@ fn play_tears(
                 let status = outcome.status;
                 let output = String::from_utf8_lossy(alloc, output)?;
                 let output = output.as_str();
-                let text = format!(in alloc; "{calls} calls, {changes} changes acknowledged, {least} found before: it ended with status {status}, and wrote:\n{output}")?;
+                let text = format!(in alloc;
+                    "{calls} calls, {changes} changes acknowledged, {least} found before: it ended with status {status}, and wrote:\n{output}"
+                )?;
                 return Ok(Some(text));
             }
         }

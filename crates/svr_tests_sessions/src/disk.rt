@@ -41,12 +41,16 @@ impl<'a> Played<'a> {
             let bytes = bytes_of(alloc, &self.outcome.disk)?;
             let bytes = hexadecimal(alloc, bytes.as_slice())?;
             let bytes = bytes.as_str();
-            let text = format!(in alloc; "run {number} in pieces of {piece} left other bytes on the disk than wanted:{bytes}")?;
+            let text = format!(in alloc;
+                "run {number} in pieces of {piece} left other bytes on the disk than wanted:{bytes}"
+            )?;
             return Ok(Some(text));
         }
         if !self.reads_disk_as_wanted(alloc, piece)? {
             let reads = self.outcome.disk.reads().len();
-            let text = format!(in alloc; "run {number} in pieces of {piece} read the disk {reads} times")?;
+            let text = format!(in alloc;
+                "run {number} in pieces of {piece} read the disk {reads} times"
+            )?;
             return Ok(Some(text));
         }
         Ok(None)

@@ -127,10 +127,7 @@ fn read_setting(word: &str, number: &str) -> Option<Setting> {
         "reads" => Some(Setting::Reads(number.parse().ok()?)),
         "disk-reads" => Some(Setting::DiskReads(number.parse().ok()?)),
         "most-disk-reads" => Some(Setting::MostDiskReads(number.parse().ok()?)),
-        _ => Some(Setting::FailDisk(
-            read_disk_call(word)?,
-            number.parse().ok()?,
-        )),
+        _ => Some(Setting::FailDisk(read_disk_call(word)?, number.parse().ok()?)),
     }
 }
 

@@ -124,12 +124,7 @@ fn sink(run: &Run, piece: NonZeroU32, flush: Option<u64>) -> Result<MemSink, All
 }
 
 /// What a crash after so many calls leaves of a disk; all of them, where it has fewer.
-pub fn image(
-    alloc: Global,
-    disk: &MemDisk,
-    calls: u64,
-    torn: Torn,
-) -> Result<Vec<u8>, AllocError> {
+pub fn image(alloc: Global, disk: &MemDisk, calls: u64, torn: Torn) -> Result<Vec<u8>, AllocError> {
     match disk.crash(alloc, calls.min(disk.calls()), torn) {
         Ok(image) => Ok(image),
         Err(_) => Err(AllocError),
