@@ -4,7 +4,7 @@
 Run it with the program's path and a folder on the disk that is to be timed: bench/durable.py crates/svr/out/svr .
 
 A change is two writes and two syncs. The limit is a loop of the same writes and syncs without a program around it; both run in turn,
-several times. The journals that are opened are written in a folder in memory, where a sync costs little, and copied; what SQLite takes to
+many times, since disks differ from one moment to the next. The journals that are opened are written in a folder in memory, where a sync costs little, and copied; what SQLite takes to
 insert the same rows in one transaction stands beside.
 """
 
@@ -13,13 +13,14 @@ import os
 import random
 import shutil
 import sqlite3
+import statistics
 import subprocess
 import sys
 import tempfile
 import time
 
-ROUNDS = 5
-CHANGES = 5_000
+ROUNDS = 20
+CHANGES = 2_000
 ROWS = 200_000
 WORDS = [f"word{number}" for number in range(5_000)]
 SCHEMA = {
@@ -80,8 +81,8 @@ def limit(folder, sizes):
     return spent
 
 
-def record_sizes(path, after):
-    """The bytes that each record of a journal takes with the closed gate behind it, but for those of the first ones."""
+def record_sizes(path):
+    """The bytes that each record of a journal takes with the closed gate behind it."""
     with open(path, "rb") as file:
         journal = file.read()
     sizes, place = [], 8
@@ -89,20 +90,39 @@ def record_sizes(path, after):
         length = int.from_bytes(journal[place + 1 : place + 5], "big")
         sizes.append(length + 6)
         place += 5 + length
-    return sizes[after:]
+    return sizes
+
+
+def changing(program, folder, changes):
+    """Seconds of a run between two pipes, from its start to its end; each request is accepted."""
+    given, taken = os.path.join(folder, "given"), os.path.join(folder, "taken")
+    with open(given, "w") as file:
+        file.write(changes)
+    with open(taken, "wb") as file:
+        start = time.monotonic()
+        source = subprocess.Popen(["cat", given], stdout=subprocess.PIPE)
+        child = subprocess.Popen([program, "serve"], stdin=source.stdout, stdout=subprocess.PIPE, cwd=folder)
+        sink = subprocess.Popen(["cat"], stdin=child.stdout, stdout=file)
+        ended = child.wait()
+        spent = time.monotonic() - start
+        child.stdout.close()
+        sink.wait()
+        source.wait()
+    with open(taken, "rb") as file:
+        assert ended == 0 and all(reply.startswith(b'{"ok":') for reply in file)
+    return spent
 
 
 def durable(program, where):
-    chance = random.Random(1)
-    shares = []
+    changes = line(op="schema", schema=SCHEMA) + inserts(documents(random.Random(1), CHANGES - 1))
+    spent, least = [], []
     for _ in range(ROUNDS):
         with tempfile.TemporaryDirectory(dir=where) as folder:
-            serve(program, folder, line(op="schema", schema=SCHEMA))
-            spent = serve(program, folder, inserts(documents(chance, CHANGES)))
-            least = limit(folder, record_sizes(os.path.join(folder, "svr.db"), 1))
-        shares.append(least / spent)
-        print(f"{CHANGES / spent:8.0f} changes a second, the disk's limit {CHANGES / least:8.0f}: {least / spent:.2f} of it")
-    print(f"in the middle {sorted(shares)[len(shares) // 2]:.2f} of the limit")
+            spent.append(changing(program, folder, changes))
+            least.append(limit(folder, record_sizes(os.path.join(folder, "svr.db"))))
+    for name, pick in ("at best", min), ("in the middle", statistics.median):
+        ours, disk = pick(spent), pick(least)
+        print(f"{name} {CHANGES / ours:.0f} changes a second, the disk's limit {CHANGES / disk:.0f}: {disk / ours:.2f} of it")
 
 
 def opening(program, memory, where, name, text, records):
