@@ -20,7 +20,8 @@ each_above x (y ∷ ys) up = (up 0 (omega arith), each_above x ys (λ j lt. up (
 pub ascends : (xs : List ℕ) → IsNonDecreasing xs → Ascends xs
 ascends [] up = tt
 ascends (x ∷ xs) up =
-    (each_above x xs (λ j lt. up 0 (suc j) 0 (omega arith) (omega arith)), ascends xs (λ i j d le lt. up (suc i) (suc j) d (omega arith) (omega arith)))
+    let first = each_above x xs (λ j lt. up 0 (suc j) 0 (omega arith) (omega arith)) in
+    (first, ascends xs (λ i j d le lt. up (suc i) (suc j) d (omega arith) (omega arith)))
 
 at_of_all : (x : ℕ) (xs : List ℕ) (at : ℕ) → AllByRecursion (λ y. x ≤ y) xs → at < length xs → x ≤ get_or xs at 0
 at_of_all x [] at all lt = absurd (omega arith)
