@@ -1,0 +1,3 @@
+mod Next
+mod Places
+mod Reached
