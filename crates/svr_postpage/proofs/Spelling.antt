@@ -1,7 +1,7 @@
 -- A page has one spelling: what is written as a page is read again as its pairs, nothing else is, and it is as long as a page.
 use Rattle.std.proofs.Common.{◌≡◌, ℕ, suc, ◌-◌, ◌*◌, ◌^◌, ◌<◌, ◌≤◌, ◌==◌, ◌&&◌, Bool, true, false, cond, List, [], ◌∷◌, ◌++◌}
 use Rattle.std.proofs.Common.{length}
-use Rattle.std.proofs.Common.{take, drop, replicate, Some, None, refl, sym, ap, ap₂, ◌∙◌, arith, leb-true, ltb-true, nat_le}
+use Rattle.std.proofs.Common.{take, drop, replicate, Option, Some, None, refl, sym, ap, ap₂, ◌∙◌, arith, leb-true, ltb-true, nat_le}
 use Rattle.std.specs.Int.{from_be_bytes, to_be_bytes, w16}
 use Rattle.std.specs.List.{flat_map, list_all}
 use Rattle.std.specs.Str.{bytes_eq}
@@ -99,3 +99,16 @@ page_bytes-page_in bytes pairs is =
     let found = pairs_in_bytes (from_be_bytes w16 (take 2 bytes)) (drop 4 bytes) in
     let parts = only_if (fill_a_page found) (bytes_eq bytes (page_bytes found)) found pairs is in
     (ap fill_a_page (sym parts.0) ∙ parts.1.0, (bytes_eq-Decides bytes (page_bytes found)).0 parts.1.1 ∙ ap page_bytes parts.0)
+
+short_by : (bytes : List ℕ) (o : Option (List Pair)) → page_in bytes ≡ o → length bytes < 4096 → o ≡ None
+short_by bytes None is short = refl
+short_by bytes (Some pairs) is short =
+    let spelled = page_bytes-page_in bytes pairs is in
+    let more : (nat_le (length pairs) 255 && (list_all is_in_range pairs && are_in_order pairs)) ≡ true = (and_parts _ _ spelled.0).1 in
+    let few : length pairs ≤ 255 = leb-true (length pairs) 255 (and_parts _ _ more).0 in
+    let long : length bytes ≡ 4096 = ap length spelled.1 ∙ length-page_bytes pairs few in
+    absurd (omega arith)
+
+-- fewer bytes than a page has are no page
+pub page_in-short : (bytes : List ℕ) → length bytes < 4096 → page_in bytes ≡ None
+page_in-short bytes short = short_by bytes (page_in bytes) refl short

@@ -4,7 +4,7 @@ ghost use Rattle.std.specs.Option.{option_map};
 ghost use Rattle.svr_postpage.specs.Layout.{are_pairs, follows, has_layout, is_zero};
 ghost use Rattle.svr_postpage.specs.Pages.{page_bytes, page_in, pair_bytes, pair_in, pairs_in_bytes, pairs_of};
 ghost use Rattle.svr_postpage.specs.Pairs.{fill_a_page, ref_of};
-ghost use Rattle.svr_postpage.specs.Wanted.{damage_in, has_head_of};
+ghost use Rattle.svr_postpage.specs.Wanted.{damage_by_head, damage_in, has_head_of};
 
 use crate::page_ref::{Damage, PageRef};
 use crate::pair::Pair;
@@ -129,14 +129,11 @@ impl PageRef {
         self.key == other.key && self.id == other.id && self.count == other.count
     }
 
-    /// What is wrong with bytes where this page is wanted, if anything is.
-    pub fn damage_in(&self, bytes: &[u8; 4096]) -> Option<Damage>
-        ensures { result ≡ damage_in self.now bytes.now }
+    /// What is wrong with a page where this one is wanted: nothing, or it has another head.
+    pub fn damage_by_head(&self, found: &PageRef) -> Option<Damage>
+        ensures { result ≡ damage_by_head self.now found.now }
     {
-        let Ok(found) = read_page(bytes, self.at) else {
-            return Some(Damage::NotAPage);
-        };
-        if self.has_head_of(&found) {
+        if self.has_head_of(found) {
             return None;
         }
         Some(Damage::Head {
@@ -144,5 +141,15 @@ impl PageRef {
             id: found.id,
             count: found.count,
         })
+    }
+
+    /// What is wrong with bytes where this page is wanted, if anything is.
+    pub fn damage_in(&self, bytes: &[u8; 4096]) -> Option<Damage>
+        ensures { result ≡ damage_in self.now bytes.now }
+    {
+        match read_page(bytes, self.at) {
+            Ok(found) => self.damage_by_head(&found),
+            Err(_) => Some(Damage::NotAPage),
+        }
     }
 }
