@@ -1,5 +1,5 @@
 -- Keeping a page in a cache, seen as addresses with their bytes.
-use Rattle.std.proofs.Common.{◌≡◌, ◌⊎◌, ℕ, ◌<◌, ◌-◌, Bool, true, false, cond, nat_eq, List, [], ◌∷◌, take, map, Option, None, Some, Contains, refl, sym, ap, ap₂, subst, ◌∙◌, eqb-true, inl, inr}
+use Rattle.std.proofs.Common.{◌≡◌, ◌⊎◌, ℕ, ◌<◌, ◌-◌, true, nat_eq, List, ◌∷◌, take, Option, None, Some, Contains, sym, ap, subst, ◌∙◌, eqb-true, inl, inr}
 use Rattle.std.specs.Map.{lookup, lookup_entry, remove_entry}
 use Rattle.std.specs.Option.{option_map, option_map_or}
 use Rattle.std.proofs.lemmas.List.{take-map}
@@ -9,29 +9,15 @@ use Rattle.svr_postpage.specs.declared.page_ref.PageRef.{PageRef}
 use Rattle.svr_postpage.specs.Pages.{page_in}
 use Rattle.svr_postpage.specs.Pairs.{ref_of}
 use Rattle.svr_pages.specs.declared.pages.Kept.{Kept}
-use Rattle.svr_pages.specs.Cached.{CachedPages, MayKeep, cached_at, with_page}
+use Rattle.svr_pages.specs.Cached.{MayKeep, cached_at, with_page}
 use Rattle.svr_pages.specs.Layout.{AreKnown, EachKnown, MayPut, seen}
-use Rattle.svr_pages.proofs.Finding.{cached_at-seen, none-seen}
-
-value_of : (b : Bool) (e : ℕ × Kept) (o : Option (ℕ × Kept))
-    → cond b (Some e.1) (option_map (λ (x : ℕ × Kept). x.1) o) ≡ option_map (λ (x : ℕ × Kept). x.1) (cond b (Some e) o)
-value_of true e o = refl
-value_of false e o = refl
-
-lookup-entry : (test : ℕ → Bool) (es : List (ℕ × Kept)) → lookup test es ≡ option_map (λ (x : ℕ × Kept). x.1) (lookup_entry test es)
-lookup-entry test [] = refl
-lookup-entry test (e ∷ es) =
-    ap (λ (o : Option Kept). cond (test e.0) (Some e.1) o) (lookup-entry test es) ∙ value_of (test e.0) e (lookup_entry test es)
-
-none-entry : (o : Option (ℕ × Kept)) → option_map (λ (x : ℕ × Kept). x.1) o ≡ None → o ≡ None
-none-entry None is = refl
-none-entry (Some e) is = absurd (cc)
+use Rattle.svr_pages.proofs.Finding.{cached_at-seen, none-seen, none_there}
 
 -- a new page comes in front
 put-new : (c : LruCache ℕ Kept) (at : ℕ) (kept : Kept) → lookup (nat_eq at) c.entries ≡ None
     → put_entries nat_eq c at kept ≡ (at, kept) ∷ take (c.cap - 1) c.entries
 put-new c at kept none =
-    let gone : lookup_entry (nat_eq at) c.entries ≡ None = none-entry _ (sym (lookup-entry (nat_eq at) c.entries) ∙ none) in
+    let gone : lookup_entry (nat_eq at) c.entries ≡ None = none_there (nat_eq at) c.entries none in
     ap (λ (o : Option (ℕ × Kept)). option_map_or (λ e. (e.0, kept) ∷ remove_entry (nat_eq at) c.entries) o ((at, kept) ∷ take (c.cap - 1) c.entries)) gone
 
 -- a page is kept, in what is seen too

@@ -1,8 +1,6 @@
 -- What a reader tells, and that what is cached stays that of the disk.
-use Rattle.std.proofs.Common.{◌≡◌, ◌⊎◌, ℕ, ◌<◌, ◌≤◌, ◌+◌, ◌-◌, true, nat_eq, List, [], ◌∷◌, length, take, drop, Option, None, Some, Result, Ok, Err, OnOk, IfErr, Contains, refl, sym, ap, ap₂, subst, ◌∙◌, arith, inl, inr, eqb-true}
-use Rattle.std.specs.Map.{lookup}
+use Rattle.std.proofs.Common.{◌≡◌, ◌⊎◌, ℕ, ◌<◌, ◌≤◌, ◌+◌, ◌-◌, nat_eq, List, length, take, drop, Option, None, Some, Result, Ok, Err, OnOk, IfErr, refl, sym, ap, subst, ◌∙◌, arith, inl, inr, eqb-true}
 use Rattle.std.specs.Option.{ForSome, option_map}
-use Rattle.std.specs.List.{slice_range}
 use Rattle.std.proofs.lemmas.List.{length-drop, length-take, take-take}
 use Rattle.std.proofs.lemmas.Slice.{between_is}
 use Rattle.lru.proofs.CallerLemmas.{Contains-lookup, Contains-promoted, Contains-take}
@@ -13,7 +11,7 @@ use Rattle.svr_postpage.specs.declared.page_ref.Damage.TheVariants as damage
 use Rattle.svr_postpage.specs.declared.page_ref.PageFault.{PageFault}
 use Rattle.svr_postpage.specs.declared.page_ref.PageFault.TheVariants as fault
 use Rattle.svr_postpage.specs.declared.page_ref.PageRef.{PageRef}
-use Rattle.svr_postpage.specs.Pages.{bytes_at, page_in}
+use Rattle.svr_postpage.specs.Pages.{bytes_at}
 use Rattle.svr_postpage.specs.Wanted.{TellsDamage, damage_by_pairs, damage_in}
 use Rattle.svr_postpage.proofs.Spelling.{page_in-short}
 use Rattle.svr_pages.specs.Asked.{AreRead, IsReady, Keeps, ReadsOnce, Says}
@@ -59,17 +57,20 @@ cached_is_read reach d c at into ready found = λ content told.
 -- a page that ends past reach is none of what is told
 pub past_is_none : (reach : ℕ) (o : Option (List ℕ)) (want : PageRef) → reach < want.at + 4096
     → TellsDamage want (option_map (take reach) o) (fault.Damaged want.at damage.NotAPage)
-past_is_none reach o want past = (refl, λ bytes told.
-    let by = told_by reach o bytes told in
-    let short : length (bytes_at bytes want.at) < 4096 =
-    let front : length (drop want.at (take reach by.0)) ≤ reach - want.at =
-    omega (arith, length-drop want.at (take reach by.0), length-take reach by.0) in
-    omega (
-      arith,
-      ap (λ (l : List ℕ). length (bytes_at l want.at)) by.1.1,
-      length-take (want.at + 4096 - want.at) (drop want.at (take reach by.0)),
-    ) in
-    ap (damage_by_pairs want) (page_in-short (bytes_at bytes want.at) short))
+past_is_none reach o want past = (
+  refl,
+  λ bytes told.
+      let by = told_by reach o bytes told in
+      let short : length (bytes_at bytes want.at) < 4096 =
+      let front : length (drop want.at (take reach by.0)) ≤ reach - want.at =
+      omega (arith, length-drop want.at (take reach by.0), length-take reach by.0) in
+      omega (
+        arith,
+        ap (λ (l : List ℕ). length (bytes_at l want.at)) by.1.1,
+        length-take (want.at + 4096 - want.at) (drop want.at (take reach by.0)),
+      ) in
+      ap (damage_by_pairs want) (page_in-short (bytes_at bytes want.at) short),
+)
 
 -- the answer, by what is wrong
 pub says_page : {T : Type 0} (want : PageRef) (o : Option Damage) (result : Result T PageFault) → Says want o result → OnOk result (o ≡ None)
@@ -111,26 +112,22 @@ with_page-of : (content : List ℕ) (c : CachedPages) (at : ℕ) (page : List �
 with_page-of content c at page are is = λ k bytes in_it.
     elim (Contains-cons (at, page) (take (c.capacity - 1) c.pages) (k, bytes) in_it) [
       | inl same ↦
-        let key : at ≡ k = ap (λ (e : ℕ × List ℕ). e.0) same in
-        let value : page ≡ bytes = ap (λ (e : ℕ × List ℕ). e.1) same in
-        sym value ∙ is ∙ ap (bytes_at content) key
+          let key : at ≡ k = ap (λ (e : ℕ × List ℕ). e.0) same in
+          let value : page ≡ bytes = ap (λ (e : ℕ × List ℕ). e.1) same in
+          sym value ∙ is ∙ ap (bytes_at content) key
       | inr there ↦ are k bytes (Contains-take (c.capacity - 1) c.pages (k, bytes) there)
     ]
 
-ready-kept : (reach : ℕ) (want : PageRef) (old new : DiskView) (c kept : CachedPages) → IsReady reach old c → ReadsOnce want.at old new
+pub ready-read : (reach : ℕ) (want : PageRef) (old new : DiskView) (c kept : CachedPages) → IsReady reach old c → ReadsOnce want.at old new
     → (kept ≡ c) ⊎ Keeps want old c kept → IsReady reach new kept
-ready-kept reach want old new c kept ready once (inl same) = record {
+ready-read reach want old new c kept ready once (inl same) = record {
   within = subst (λ n. reach ≤ n) (sym once.stays.size) ready.within;
   cached = λ content told. subst (AreOf content) (sym same) (ready.cached content (sym once.stays.content ∙ told));
 }
-ready-kept reach want old new c kept ready once (inr keeps) = record {
+ready-read reach want old new c kept ready once (inr keeps) = record {
   within = subst (λ n. reach ≤ n) (sym once.stays.size) ready.within;
   cached = λ content told.
-    let read : Reads old content = sym once.stays.content ∙ told in
-    subst (AreOf content) (sym keeps.kept) (with_page-of content c want.at keeps.bytes (ready.cached content read)
-    (keeps.are_read content read ∙ sym (bytes_at-is want.at content)));
+      let read : Reads old content = sym once.stays.content ∙ told in
+      subst (AreOf content) (sym keeps.kept) (with_page-of content c want.at keeps.bytes (ready.cached content read)
+      (keeps.are_read content read ∙ sym (bytes_at-is want.at content)));
 }
-
-pub ready-read : (reach : ℕ) (want : PageRef) (old new : DiskView) (c kept : CachedPages) → IsReady reach old c → ReadsOnce want.at old new
-    → (kept ≡ c) ⊎ Keeps want old c kept → IsReady reach new kept
-ready-read reach want old new c kept ready once caches = ready-kept reach want old new c kept ready once caches

@@ -9,6 +9,7 @@ use svr_edge::Disk;
 use svr_postpage::{Damage, PAGE_BYTES, PageFault, PageReader, PageRef, read_page};
 
 /// Gives the pages that a disk has below `reach`, those that are cached without a read.
+#[derive(Drop)]
 pub struct Reader<'a, D> {
     pub pages: &'a mut Pages,
     pub disk: &'a mut D,
@@ -78,7 +79,9 @@ fn read<D: Disk>(
             why: Damage::NotAPage,
         });
     };
-    as_wanted(want, &found)?;
+    if let Some(why) = want.damage_by_head(&found) {
+        return Err(PageFault::Damaged { at: want.at, why });
+    }
     pages.keep(&found, into);
     Ok(())
 }
