@@ -1,0 +1,4 @@
+pub mod AfterRead
+pub mod Finding
+pub mod Keeping
+pub mod Telling
