@@ -35,16 +35,14 @@ fn run<S: Source, O: Sink, D: Disk>(
     disk: &mut D,
 ) -> ExitCode
     ensures words { exit_status result ≡ 2 ↔ (asks_to_serve (map string_bytes words.now) ≡ false) }
-    ensures ends {
-        Unopened (exit_status result)
+    ensures ends { Unopened (exit_status result)
         (streams (S.left input.old) (S.faults input.old) (O.taken output.old) (O.sent output.old) (O.faults output.old))
         (streams (S.left input.new) (S.faults input.new) (O.taken output.new) (O.sent output.new) (O.faults output.new))
         (D.view disk.old) (D.view disk.new)
         ⊎ Carried (exit_status result)
         (streams (S.left input.old) (S.faults input.old) (O.taken output.old) (O.sent output.old) (O.faults output.old))
         (streams (S.left input.new) (S.faults input.new) (O.taken output.new) (O.sent output.new) (O.faults output.new))
-        (D.view disk.old) (D.view disk.new)
-    }
+        (D.view disk.old) (D.view disk.new) }
     ensures cause { HasCause (exit_status result)
         (streams (S.left input.old) (S.faults input.old) (O.taken output.old) (O.sent output.old) (O.faults output.old))
         (streams (S.left input.new) (S.faults input.new) (O.taken output.new) (O.sent output.new) (O.faults output.new)) }

@@ -25,7 +25,7 @@ returns-clause-ok g c =
           let same = found_bodies bytes end (there.closed bytes now) there.bodies bodies stood.stands (there.gates bytes now) in (
             same,
             keeps mid new bytes there.bodies (g.met.D.Disk.laws c.replay.new.disk)
-            c.in_ok-journal.ensures.settled c.in_ok-core.ensures.reads.stays now
+                c.in_ok-journal.ensures.settled c.in_ok-core.ensures.reads.stays now
                 (subst (λ (bs : List (List ℕ)). StandsFor bytes bs) same stood.stands),
           );
     }
