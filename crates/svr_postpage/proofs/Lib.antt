@@ -1,1 +1,4 @@
+pub mod ByLayout
 pub mod Spelling
+pub mod Undamaged
+pub mod Writing

@@ -1,7 +1,7 @@
--- A page has one spelling: what is written as a page is read again as its pairs, and is as long as a page.
+-- A page has one spelling: what is written as a page is read again as its pairs, nothing else is, and it is as long as a page.
 use Rattle.std.proofs.Common.{◌≡◌, ℕ, suc, ◌-◌, ◌*◌, ◌^◌, ◌<◌, ◌≤◌, ◌==◌, ◌&&◌, Bool, true, false, cond, List, [], ◌∷◌, ◌++◌}
 use Rattle.std.proofs.Common.{length}
-use Rattle.std.proofs.Common.{take, drop, replicate, Some, None, refl, ap, ap₂, ◌∙◌, arith, leb-true, ltb-true, nat_le}
+use Rattle.std.proofs.Common.{take, drop, replicate, Some, None, refl, sym, ap, ap₂, ◌∙◌, arith, leb-true, ltb-true, nat_le}
 use Rattle.std.specs.Int.{from_be_bytes, to_be_bytes, w16}
 use Rattle.std.specs.List.{flat_map, list_all}
 use Rattle.std.specs.Str.{bytes_eq}
@@ -58,7 +58,8 @@ page_in-page_bytes pairs fill =
     ∙ pairs_in_bytes-written pairs (replicate (4092 - 16 * length pairs) 0) fit in
     ap (if_page (page_bytes pairs)) read ∙ if_both _ _ (Some pairs) None fill (same_bytes (page_bytes pairs))
 
-length-pairs : (pairs : List Pair) → length (flat_map pair_bytes pairs) ≡ 16 * length pairs
+-- each pair has 16 bytes
+pub length-pairs : (pairs : List Pair) → length (flat_map pair_bytes pairs) ≡ 16 * length pairs
 length-pairs [] = refl
 length-pairs (p ∷ ps) = omega (arith, length-append (pair_bytes p) (flat_map pair_bytes ps), length-pairs ps)
 
@@ -84,3 +85,17 @@ pairs_told-written told at (p ∷ ps) fill there =
     ap (λ bytes. pairs_with_head (ref_of at (p ∷ ps)) (page_in bytes)) there
     ∙ ap (pairs_with_head (ref_of at (p ∷ ps))) (page_in-page_bytes (p ∷ ps) fill)
     ∙ rw (eq_itself p.key, eq_itself p.id, eq_itself (length (p ∷ ps))) refl
+
+only_if : (fill same : Bool) (found pairs : List Pair) → cond (fill && same) (Some found) None ≡ Some pairs
+    → (found ≡ pairs) × ((fill ≡ true) × (same ≡ true))
+only_if true true found pairs is = (cc, (refl, refl))
+only_if true false found pairs is = absurd (cc)
+only_if false same found pairs is = absurd (cc)
+
+-- nothing else is read: the bytes of a page are those of its pairs, which a page may hold
+pub page_bytes-page_in : (bytes : List ℕ) (pairs : List Pair) → page_in bytes ≡ Some pairs → (fill_a_page pairs ≡ true) × (bytes ≡ page_bytes pairs)
+unfolding page_in
+page_bytes-page_in bytes pairs is =
+    let found = pairs_in_bytes (from_be_bytes w16 (take 2 bytes)) (drop 4 bytes) in
+    let parts = only_if (fill_a_page found) (bytes_eq bytes (page_bytes found)) found pairs is in
+    (ap fill_a_page (sym parts.0) ∙ parts.1.0, (bytes_eq-Decides bytes (page_bytes found)).0 parts.1.1 ∙ ap page_bytes parts.0)

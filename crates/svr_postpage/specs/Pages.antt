@@ -36,3 +36,12 @@ page_in bytes = if_page bytes (pairs_in_bytes (from_be_bytes w16 (take 2 bytes))
 -- the bytes of a page's length from an address on; fewer where they end sooner
 abbrev pub bytes_at : List ℕ → ℕ → List ℕ
 bytes_at told at = slice_range told at (at + 4096)
+
+-- no pairs where there is no page
+abbrev pub pairs_or_none : Option (List Pair) → List Pair
+pairs_or_none None = []
+pairs_or_none (Some pairs) = pairs
+
+-- the pairs of the page that these bytes are; none where they are no page
+abbrev pub pairs_of : List ℕ → List Pair
+pairs_of bytes = pairs_or_none (page_in bytes)

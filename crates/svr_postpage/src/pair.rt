@@ -1,5 +1,5 @@
 ghost use Rattle.std.specs.Prelude.{◌≡◌};
-ghost use Rattle.svr_postpage.specs.Pairs.{is_before};
+ghost use Rattle.svr_postpage.specs.Pairs.{is_before, is_in_range};
 
 /// A document at a key: what a list of postings is made of.
 #[derive(Clone, Copy, Debug, PartialEq, Eq)]
@@ -16,5 +16,12 @@ impl Pair {
         ensures { result ≡ is_before self.now other.now }
     {
         self.key > other.key || (self.key == other.key && self.id < other.id)
+    }
+
+    /// Whether its key and its id are in their ranges.
+    pub fn is_in_range(&self) -> bool
+        ensures { result ≡ is_in_range self.now }
+    {
+        self.key < 1 << 48 && self.id < 1 << 63
     }
 }
