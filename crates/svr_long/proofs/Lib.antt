@@ -1,1 +1,5 @@
 mod Counting
+mod Ending
+mod Ends
+mod Firsts
+mod Running

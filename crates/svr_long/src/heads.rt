@@ -5,7 +5,7 @@ ghost use Rattle.svr_long.specs.Heads.{are_heads, fits, heads, is_before_all};
 use svr_postpage::{PageRef, Pair};
 
 /// The first pair of a page.
-fn first_pair(page: &PageRef) -> Pair
+pub fn first_pair(page: &PageRef) -> Pair
     ensures { result ≡ first_pair page.now }
 {
     Pair {
