@@ -1,28 +1,34 @@
 -- What was taken when no pair of the key is left, and what was asked for until then.
-use Rattle.std.proofs.Common.{◌≡◌, ◌<◌, ◌≤◌, ◌+◌, ◌*◌, ◌^◌, ◌==◌, ℕ, Bool, true, false, cond, List, [], ◌∷◌, ◌++◌, length, map, Option, Some, None, unwrap_or, Ok, Err, refl, sym, ap, subst, ◌∙◌, arith, leb-true, nat_le, nat_lt}
-use Rattle.std.specs.List.{AllByRecursion, All}
-use Rattle.std.specs.Option.{ForSome}
+use Rattle.std.proofs.Common.{◌≡◌, ◌<◌, ◌≤◌, ◌+◌, ◌*◌, ◌^◌, ◌==◌, ℕ, Bool, true, false, cond, List, [], ◌∷◌, ◌++◌, length, Option, Some, unwrap_or, Ok, Err, refl, sym, ap, subst, ◌∙◌, arith, leb-true, nat_eq}
+use Rattle.std.specs.List.{AllByRecursion}
+use Rattle.std.specs.Option.{ForSome, option_eq}
 use Rattle.std.proofs.lemmas.List.{append_assoc, append-nil}
 use Rattle.svr_iter.specs.MemPairs.{IsPaged, before_high, grouped, in_range}
 use Rattle.svr_iter.specs.GroupLaws.{to_all}
 use Rattle.svr_iter.specs.Marks.{every}
 use Rattle.svr_iter.specs.Merging.{Above, Up, Up-to}
 use Rattle.svr_iter.specs.Taking.{IsLess}
-use Rattle.svr_iter.specs.Truths.{and_left, and_right, by_order, eq_false, eq_more, eq_true}
+use Rattle.svr_iter.specs.Truths.{and_left, and_right, by_order, eq_false, eq_more, eq_self, eq_true}
 use Rattle.svr_iter.proofs.Asking.{InTurn-append}
 use Rattle.svr_iter.proofs.MemRun.{front, front-end}
 use Rattle.svr_listing.specs.Groups.{IsGroup}
-use Rattle.svr_listing.specs.declared.group.Group.{Group}
-use Rattle.svr_postpage.specs.Pairs.{fill_a_page, is_before}
-use Rattle.svr_postpage.specs.Reading.{Asks, InTurn, IsFront}
+use Rattle.svr_postpage.specs.Pairs.{fill_a_page}
+use Rattle.svr_postpage.specs.Reading.{Asks, InTurn}
 use Rattle.svr_postpage.specs.declared.page_ref.PageRef.{PageRef}
 use Rattle.svr_postpage.specs.declared.pair.Pair.{Pair}
 use Rattle.svr_long.specs.Cursor.{first_key_of, is_ahead, kept, pages_of_key, pairs_left}
 use Rattle.svr_long.specs.CursorLaws.{all-less, first_key-left, none-of_key, read_told}
 use Rattle.svr_long.specs.Heads.{are_paged, heads}
-use Rattle.svr_long.specs.Layout.{AsksOne, ReadsPage, Steps}
-use Rattle.svr_long.specs.PagedLaws.{Behind, IsPaged-behind, IsPaged-from}
+use Rattle.svr_long.specs.Layout.{AsksOne, Steps}
+use Rattle.svr_long.specs.PagedLaws.{Behind, IsPaged-behind}
 use Rattle.svr_long.proofs.Running.{Run, at_key}
+
+-- the next key is another one
+pub other_key : (next : Option ℕ) (key : ℕ) → false ≡ option_eq nat_eq next (Some key) → next ≡ Some key → ⊥
+other_key next key e same =
+    let no : false ≡ (key == key) = subst (λ (o : Option ℕ). false ≡ option_eq nat_eq o (Some key)) same e in
+    let yes : (key == key) ≡ true = eq_self key in
+    absurd (cc)
 
 front_over : (key : ℕ) (ids : List ℕ) (qs : List Pair) → (first_key_of qs ≡ Some key → ⊥)
     → front key ids (grouped qs) ≡ record { key = key; ids = ids } ∷ grouped qs
@@ -114,7 +120,7 @@ module _ {R : Type 0} (asked : R → PageRef → R → Type 0) (told : Option (L
     Run-asks value =
         let h : IsPaged (ps ++ heads pages) = IsPaged-behind (at_key key ids) (ps ++ heads pages) run.order in
         let none : pages_of_key key pages ≡ [] =
-                none-of_key key pages (less_heads key ps (heads pages) (all-less key (ps ++ heads pages) h less)) in
+        none-of_key key pages (less_heads key ps (heads pages) (all-less key (ps ++ heads pages) h less)) in
         record {
           asked_for = run.front_pages;
           in_turn = run.in_turn;
@@ -151,7 +157,7 @@ module _ {R : Type 0} (asked : R → PageRef → R → Type 0) (told : Option (L
       by [] (page ∷ rest) e asks all =
           let same : page.key ≡ key = cc in
           let front : pages_of_key key (page ∷ rest) ≡ page ∷ pages_of_key key rest =
-                  ap (λ (b : Bool). cond b (page ∷ pages_of_key key rest) (pages_of_key key rest)) (eq_true page.key key same) in
+          ap (λ (b : Bool). cond b (page ∷ pages_of_key key rest) (pages_of_key key rest)) (eq_true page.key key same) in
           record {
             asked_for = run.front_pages ++ page ∷ [];
             in_turn = InTurn-append asked run.front_pages (page ∷ []) r0 r r' run.in_turn (r', asks, refl);

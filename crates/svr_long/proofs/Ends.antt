@@ -1,12 +1,12 @@
 -- How many of the first pairs of a page stand in front of the next one, and the pairs that a buffer has left.
-use Rattle.std.proofs.Common.{◌≡◌, ◌<◌, ◌≤◌, ◌+◌, ◌-◌, ℕ, zero, suc, Bool, true, false, cond, List, [], ◌∷◌, ◌++◌, length, take, drop, slice_get, slice_range, Option, Some, None, refl, sym, ap, subst, ◌∙◌, arith, add-one}
+use Rattle.std.proofs.Common.{◌≡◌, ◌<◌, ◌+◌, ◌-◌, ℕ, zero, suc, Bool, true, false, cond, List, [], ◌∷◌, ◌++◌, take, drop, slice_get, slice_range, Some, refl, sym, ap, subst, ◌∙◌, arith}
 use Rattle.std.specs.List.{AllByRecursion}
 use Rattle.svr_iter.specs.MemPairs.{IsPaged, before_trans}
 use Rattle.svr_postpage.specs.Pairs.{first_pair, is_before}
 use Rattle.svr_postpage.specs.declared.page_ref.PageRef.{PageRef}
 use Rattle.svr_postpage.specs.declared.pair.Pair.{Pair}
 use Rattle.svr_long.specs.Cursor.{is_ahead, kept}
-use Rattle.svr_long.specs.PagedLaws.{Behind, all-behind}
+use Rattle.svr_long.specs.PagedLaws.{all-behind}
 
 take_last : (ps : List Pair) (n : ℕ) (x : Pair) → slice_get ps n ≡ Some x → take (suc n) ps ≡ take n ps ++ x ∷ []
 take_last [] n x e = absurd (cc)

@@ -1,7 +1,7 @@
 -- The first of the pairs that are left.
-use Rattle.std.proofs.Common.{◌≡◌, ◌<◌, ◌≤◌, ◌^◌, ℕ, Bool, true, List, [], ◌∷◌, ◌++◌, Option, None, Some, slice_get, refl, sym, ap, subst, ◌∙◌, arith}
+use Rattle.std.proofs.Common.{◌≡◌, ◌<◌, ◌^◌, true, List, [], ◌∷◌, ◌++◌, None, Some, slice_get, refl, subst}
 use Rattle.std.specs.Option.{IfSome}
-use Rattle.svr_iter.specs.MemPairs.{IsPaged, in_range}
+use Rattle.svr_iter.specs.MemPairs.{in_range}
 use Rattle.svr_iter.specs.Truths.{and_left}
 use Rattle.svr_postpage.specs.declared.pair.Pair.{Pair}
 use Rattle.svr_long.specs.Cursor.{first_key_of}

@@ -2,4 +2,5 @@ mod Counting
 mod Ending
 mod Ends
 mod Firsts
+pub mod Posted
 mod Running

@@ -1,31 +1,24 @@
 -- Taking the pairs of one key, step by step: a pair that was read is taken, or the next page is read.
-use Rattle.std.proofs.Common.{◌≡◌, ◌<◌, ◌≤◌, ◌+◌, ◌-◌, ◌*◌, ◌^◌, ◌==◌, ℕ, zero, suc, Bool, true, false, cond, List, [], ◌∷◌, ◌++◌, length, map, filter, take, drop, slice_range, get_or, add-one, Option, Some, None, unwrap_or, refl, sym, ap, ap₂, subst, ◌∙◌, arith, nat_lt, nat_le}
-use Rattle.std.specs.List.{AllByRecursion, All}
+use Rattle.std.proofs.Common.{◌≡◌, ◌<◌, ◌≤◌, ◌+◌, ◌-◌, ℕ, zero, suc, true, List, [], ◌∷◌, ◌++◌, length, map, take, drop, slice_range, get_or, add-one, Option, Some, None, refl, sym, ap, subst, ◌∙◌, arith}
+use Rattle.std.specs.List.{AllByRecursion}
 use Rattle.std.specs.Option.{ForSome}
-use Rattle.std.proofs.lemmas.List.{append_assoc, append-nil}
-use Rattle.svr_iter.specs.MemPairs.{IsPaged, before_high, grouped, in_range}
-use Rattle.svr_iter.specs.GroupLaws.{to_all}
-use Rattle.svr_iter.specs.Marks.{every}
-use Rattle.svr_iter.specs.Merging.{Above, Up, Up-to}
-use Rattle.svr_iter.specs.Taking.{IsLess}
-use Rattle.svr_iter.specs.Truths.{and_left, and_right, eq_false, eq_less, eq_true, lt_from}
+use Rattle.std.proofs.lemmas.List.{append_assoc}
+use Rattle.svr_iter.specs.MemPairs.{IsPaged, grouped}
 use Rattle.svr_iter.proofs.Asking.{InTurn-append}
-use Rattle.svr_iter.proofs.MemRun.{front, front-end, front-more, front-start}
-use Rattle.svr_listing.specs.Groups.{IsGroup}
-use Rattle.svr_listing.specs.declared.group.Group.{Group}
+use Rattle.svr_iter.proofs.MemRun.{front, front-more, front-start}
 use Rattle.svr_postpage.specs.Pages.{bytes_at, page_in, pairs_of, pairs_or_none}
-use Rattle.svr_postpage.specs.Pairs.{fill_a_page, first_pair, is_before}
-use Rattle.svr_postpage.specs.Reading.{InTurn, IsFront}
+use Rattle.svr_postpage.specs.Pairs.{fill_a_page, first_pair}
+use Rattle.svr_postpage.specs.Reading.{InTurn}
 use Rattle.svr_postpage.specs.Wanted.{damage_by_pairs, damage_in, pairs_with_head}
 use Rattle.svr_postpage.specs.declared.page_ref.PageRef.{PageRef}
 use Rattle.svr_postpage.specs.declared.pair.Pair.{Pair}
 use Rattle.svr_postpage.proofs.Spelling.{page_bytes-page_in}
 use Rattle.svr_postpage.proofs.Undamaged.{has_head_of-undamaged, pairs_with_head-undamaged}
-use Rattle.svr_long.specs.Cursor.{first_key_of, kept, or_first, page_pairs, pages_of_key, pairs_from, pairs_left}
-use Rattle.svr_long.specs.CursorLaws.{all-less, first_key-left, is_read, low-behind, none-of_key, read_told, told-pairs}
+use Rattle.svr_long.specs.Cursor.{first_key_of, kept, or_first, page_pairs, pairs_from, pairs_left}
+use Rattle.svr_long.specs.CursorLaws.{first_key-left, is_read, low-behind, read_told, told-pairs}
 use Rattle.svr_long.specs.Heads.{are_paged, heads}
-use Rattle.svr_long.specs.Layout.{AsksOne, ReadsPage, Steps}
-use Rattle.svr_long.specs.PagedLaws.{are_paged-to, Behind, IsPaged-behind, IsPaged-from, IsPaged-join, IsPaged-kept, all-front, far-heads, kept-first}
+use Rattle.svr_long.specs.Layout.{ReadsPage, Steps}
+use Rattle.svr_long.specs.PagedLaws.{are_paged-to, IsPaged-behind, IsPaged-from, IsPaged-join, IsPaged-kept, far-heads, kept-first}
 
 -- ---- a page that was read
 
@@ -56,16 +49,28 @@ drop_page [] i d lt = absurd (omega arith)
 drop_page (p ∷ ps) zero d lt = refl
 drop_page (p ∷ ps) (suc i) d lt = rw add-one (rw add-one at (drop_page ps i d (omega arith)))
 
+take_all : (m : ℕ) (pages : List PageRef) → length pages ≤ m → take m pages ≡ pages
+take_all zero [] le = refl
+take_all (suc m) [] le = refl
+take_all zero (p ∷ ps) le = absurd (omega arith)
+take_all (suc m) (p ∷ ps) le = ap (λ (l : List PageRef). p ∷ l) (take_all m ps (omega arith))
+
+take_rest : (n m : ℕ) (pages : List PageRef) → length pages ≤ n + m → take m (drop n pages) ≡ drop n pages
+take_rest zero m pages le = take_all m pages (omega arith)
+take_rest (suc n) m [] le = take_all m [] (omega arith)
+take_rest (suc n) m (p ∷ ps) le = take_rest n m ps (omega arith)
+
 -- what is left is in page order then
 pub in_order-read : (told : Option (List ℕ)) (pages : List PageRef) (at : ℕ) (d : PageRef) (before after : List Pair) → at < length pages
-    → before ≡ [] → are_paged (before ++ heads (drop at pages)) ≡ true → ReadsPage told (get_or pages at d) (drop (at + 1) pages) after
+    → before ≡ [] → are_paged (before ++ heads (drop at pages)) ≡ true → ReadsPage told (get_or pages at d) (slice_range pages (at + 1) (length pages)) after
     → are_paged (after ++ heads (drop (at + 1) pages)) ≡ true
 in_order-read told pages at d before after lt none paged reads =
     let h : IsPaged (heads (drop at pages)) =
-            IsPaged-behind before (heads (drop at pages)) (IsPaged-from (before ++ heads (drop at pages)) paged) in
+    IsPaged-behind before (heads (drop at pages)) (IsPaged-from (before ++ heads (drop at pages)) paged) in
     are_paged-to (after ++ heads (drop (at + 1) pages))
     (order-read told (get_or pages at d) (drop (at + 1) pages) after
-    (subst (λ (ps : List PageRef). IsPaged (heads ps)) (drop_page pages at d lt) h) reads)
+    (subst (λ (ps : List PageRef). IsPaged (heads ps)) (drop_page pages at d lt) h)
+    (subst (λ (ps : List PageRef). ReadsPage told (get_or pages at d) ps after) (take_rest (at + 1) (length pages - (at + 1)) pages (omega arith)) reads))
 
 begin-read : (told : Option (List ℕ)) (page : PageRef) (pages : List PageRef) (after : List Pair) → IsPaged (heads (page ∷ pages))
     → (reads : ReadsPage told page pages after)
@@ -147,7 +152,7 @@ module _ {R : Type 0} (asked : R → PageRef → R → Type 0) (told : Option (L
       → pairs_left bytes after pages ≡ pairs_left bytes [] (page ∷ pages)
   as_read bytes page pages after at reads =
       let same : page_pairs bytes page ≡ reads.pairs =
-              ap (or_first page) (sym (reads.as_told bytes at)) ∙ told-pairs page reads.pairs reads.is_page in
+      ap (or_first page) (sym (reads.as_told bytes at)) ∙ told-pairs page reads.pairs reads.is_page in
       ap (λ (ps : List Pair). ps ++ pairs_from (page_pairs bytes) pages) (reads.left ∙ ap (kept pages) (sym same))
 
   run_read : (page : PageRef) (pages : List PageRef) (after : List Pair) (ids : List ℕ) (r r' : R) → page.key ≡ key
@@ -158,7 +163,7 @@ module _ {R : Type 0} (asked : R → PageRef → R → Type 0) (told : Option (L
       let begin = begin-read told page pages after h reads in
       let order : IsPaged (after ++ heads pages) = order-read told page pages after h reads in
       let first : first_key_of (after ++ heads pages) ≡ Some key =
-              ap (λ (ps : List Pair). first_key_of (ps ++ heads pages)) begin ∙ ap Some e in
+      ap (λ (ps : List Pair). first_key_of (ps ++ heads pages)) begin ∙ ap Some e in
       record {
         groups = λ bytes at. ap (λ (ps : List Pair). front key ids (grouped ps)) (as_read bytes page pages after at reads) ∙ run.groups bytes at;
         order = subst (λ (ps : List Pair). IsPaged (at_key key ids ++ (ps ++ heads pages))) (sym begin)

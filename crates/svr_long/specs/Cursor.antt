@@ -1,10 +1,9 @@
 -- The pairs that pages hold by given bytes, and those that a cursor has left.
-use Rattle.std.specs.Prelude.{◌≡◌, ℕ, ◌==◌, Bool, true, List, [], ◌∷◌, ◌++◌, filter, Option, None, Some}
+use Rattle.std.specs.Prelude.{ℕ, ◌==◌, Bool, true, List, [], ◌∷◌, ◌++◌, filter, Option, None, Some}
 use Rattle.svr_postpage.specs.declared.page_ref.PageRef.{PageRef}
 use Rattle.svr_postpage.specs.declared.pair.Pair.{Pair}
 use Rattle.svr_postpage.specs.Pairs.{first_pair, is_before}
 use Rattle.svr_postpage.specs.Wanted.{pairs_told}
-use Rattle.svr_long.specs.Heads.{heads}
 
 -- the same pairs, or the first pair of a page alone where there is none
 abbrev pub or_first : PageRef → List Pair → List Pair

@@ -9,14 +9,14 @@ use Rattle.svr_listing.specs.Groups.{AreGroups, first_key}
 use Rattle.svr_listing.specs.declared.group.Group.{Group}
 use Rattle.svr_postpage.specs.Pages.{bytes_at, page_in, pairs_of, pairs_or_none}
 use Rattle.svr_postpage.proofs.Spelling.{page_bytes-page_in}
-use Rattle.svr_postpage.specs.Pairs.{are_in_order, fill_a_page, first_pair, is_before, is_in_range, ref_of}
-use Rattle.svr_postpage.specs.Wanted.{has_head_of, pairs_told, pairs_with_head}
+use Rattle.svr_postpage.specs.Pairs.{are_in_order, fill_a_page, first_pair, is_in_range, ref_of}
+use Rattle.svr_postpage.specs.Wanted.{has_head_of, pairs_with_head}
 use Rattle.svr_postpage.specs.declared.page_ref.PageRef.{PageRef}
 use Rattle.svr_postpage.specs.declared.pair.Pair.{Pair}
-use Rattle.svr_long.specs.Cursor.{first_key_of, or_first, page_pairs, pages_of_key, pairs_from, pairs_left}
+use Rattle.svr_long.specs.Cursor.{first_key_of, or_first, page_pairs, pages_of_key, pairs_left}
 use Rattle.svr_long.specs.Heads.{are_paged, heads}
 use Rattle.svr_long.specs.Layout.{IsPageOf}
-use Rattle.svr_long.specs.PagedLaws.{Behind, IsPaged-behind, IsPaged-from, IsPaged-left, IsRead, begin-from, order-to, range-to}
+use Rattle.svr_long.specs.PagedLaws.{Behind, IsPaged-from, IsPaged-left, IsRead, begin-from, order-to, range-to}
 
 -- the first group has the key of the first pair
 first_with : (p : Pair) (gs : List Group) → first_key (with_pair p gs) ≡ Some p.key

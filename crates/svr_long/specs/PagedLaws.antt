@@ -1,8 +1,7 @@
 -- Pairs in page order, and those that pages hold, as laws need them.
-use Rattle.std.proofs.Common.{◌≡◌, ◌<◌, ◌≤◌, ◌^◌, ◌==◌, ◌&&◌, ◌||◌, ℕ, Bool, true, false, cond, List, [], ◌∷◌, ◌++◌, filter, map, Option, Some, None, refl, sym, ap, subst, ◌∙◌, arith}
+use Rattle.std.proofs.Common.{◌≡◌, ◌<◌, ◌^◌, ◌&&◌, Bool, true, false, cond, List, [], ◌∷◌, ◌++◌, refl, sym, ap, subst, ◌∙◌}
 use Rattle.std.specs.List.{AllByRecursion, list_all}
-use Rattle.std.proofs.lemmas.Bool.Decides.{nat_tests}
-use Rattle.svr_iter.specs.MemPairs.{IsPaged, before_all, before_low, before_trans, in_range}
+use Rattle.svr_iter.specs.MemPairs.{IsPaged, before_all, in_range}
 use Rattle.svr_iter.specs.Truths.{and_left, and_right, both_true, lt_true}
 use Rattle.svr_postpage.specs.Pairs.{are_in_order, first_pair, is_before, is_in_range}
 use Rattle.svr_postpage.specs.declared.page_ref.PageRef.{PageRef}
@@ -66,10 +65,14 @@ IsPaged-behind (x ∷ xs) ys h = IsPaged-behind xs ys h.1.1
 pub IsPaged-join : (xs : List Pair) (q : Pair) (ys zs : List Pair) → IsPaged (xs ++ q ∷ ys) → IsPaged (q ∷ zs) → IsPaged (xs ++ q ∷ zs)
 IsPaged-join [] q ys zs h other = other
 IsPaged-join (x ∷ xs) q ys zs h other =
-    let here : is_before x q ≡ true = (all-behind (λ r. is_before x r ≡ true) xs (q ∷ ys) h.1.0).0 in
-    (h.0,
-    (all-both (λ r. is_before x r ≡ true) xs (q ∷ zs) (all-front (λ r. is_before x r ≡ true) xs (q ∷ ys) h.1.0)
-    (here, before_all x q zs here other.1.0), IsPaged-join xs q ys zs h.1.1 other))
+    let here : is_before x q ≡ true = (all-behind (λ r. is_before x r ≡ true) xs (q ∷ ys) h.1.0).0 in (
+      h.0,
+      (
+        all-both (λ r. is_before x r ≡ true) xs (q ∷ zs) (all-front (λ r. is_before x r ≡ true) xs (q ∷ ys) h.1.0)
+            (here, before_all x q zs here other.1.0),
+        IsPaged-join xs q ys zs h.1.1 other,
+      ),
+    )
 
 -- the pairs of a page that are kept, in front of others that stand behind each of them
 kept-all : (P : Pair → Type 0) (pages : List PageRef) (ps : List Pair) → AllByRecursion P ps → AllByRecursion P (kept pages ps)

@@ -68,11 +68,7 @@ impl<'a> LongCursor<'a> {
     }
 
     /// Takes the id of the first pair that was read, or reads the next page.
-    fn step<R: PageReader>(
-        &mut self,
-        reader: &mut R,
-        ids: &mut Vec<DocId>,
-    ) -> Result<(), ScanFault>
+    fn step<R: PageReader>(&mut self, reader: &mut R, ids: &mut Vec<DocId>) -> Result<(), ScanFault>
         requires ready { R.ready reader.old }
         requires some { IsSome (first_key_of (self.old.buffer ++ heads (drop self.old.at self.old.pages.now))) }
         ensures steps { OnOk result (Steps R.asked (R.told reader.old) self.old.buffer (drop self.old.at self.old.pages.now)

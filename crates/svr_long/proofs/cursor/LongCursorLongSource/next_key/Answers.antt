@@ -22,5 +22,5 @@ returns-in-None-clause-within c =
     let none : slice_get c.args.self.now.buffer 0 ≡ None = search rules in
     let rest : List Pair = heads (drop c.args.self.now.at c.args.self.now.pages.now) in
     let key : c.key_at.result ≡ first_key_of (c.args.self.now.buffer ++ rest) =
-            c.key_at.ensures ∙ ap (λ (ps : List Pair). first_key_of (ps ++ rest)) (sym (none_left c.args.self.now.buffer none)) in
+    c.key_at.ensures ∙ ap (λ (ps : List Pair). first_key_of (ps ++ rest)) (sym (none_left c.args.self.now.buffer none)) in
     subst (λ (o : Option ℕ). IfSome o (λ key. key < 2 ^ 48)) (sym key) (next_fits (c.args.self.now.buffer ++ rest) c.args.self.now.in_order)
