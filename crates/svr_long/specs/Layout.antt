@@ -4,7 +4,9 @@ use Rattle.std.specs.Option.{ForSome}
 use Rattle.svr_postpage.specs.declared.page_ref.PageRef.{PageRef}
 use Rattle.svr_postpage.specs.declared.pair.Pair.{Pair}
 use Rattle.svr_postpage.specs.Pairs.{fill_a_page, ref_of}
-use Rattle.svr_postpage.specs.Wanted.{has_head_of, pairs_told}
+use Rattle.svr_postpage.specs.Wanted.{TellsDamage, has_head_of, pairs_told}
+use Rattle.svr_iter.specs.declared.fault.ScanFault.{ScanFault}
+use Rattle.svr_iter.specs.declared.fault.ScanFault.TheVariants as fault
 use Rattle.svr_long.specs.Cursor.{kept}
 use Rattle.std.specs.declared.ops.Bound.{Bound}
 use Rattle.std.specs.declared.ops.Bound.TheVariants as bound
@@ -25,6 +27,11 @@ pub record ReadsPage (told : Option (List ℕ)) (page : PageRef) (pages : List P
   pub is_page : IsPageOf page pairs
   pub as_told : ForSome told (λ bytes. pairs ≡ pairs_told bytes page)
   pub left : after ≡ kept pages pairs
+
+-- the fault of a page, which tells what is wrong with the bytes there
+abbrev pub IsFaultOf : PageRef → Option (List ℕ) → ScanFault → Type 0
+IsFaultOf page told (fault.Page why) = TellsDamage page told why
+IsFaultOf page told fault.Memory = ⊥
 
 -- a step of taking a group: the id of the first pair that was read is taken, or the next page is read
 abbrev pub Steps : {R : Type 0} → (R → PageRef → R → Type 0) → Option (List ℕ) → List Pair → List PageRef → List Pair → List PageRef

@@ -1,8 +1,8 @@
-ghost use Rattle.std.specs.Prelude.{◌≡◌, ◌≤◌, [], drop, filter, length, slice_get, take, OnErr, OnOk};
+ghost use Rattle.std.specs.Prelude.{◌≡◌, ◌≤◌, [], drop, filter, length, slice_get, take, IfErr, OnErr, OnOk};
 ghost use Rattle.svr_iter.specs.Reader.{KeepsReader};
 ghost use Rattle.svr_postpage.specs.Pages.{pairs_of};
 ghost use Rattle.svr_long.specs.Cursor.{is_ahead, kept};
-ghost use Rattle.svr_long.specs.Layout.{ReadsPage};
+ghost use Rattle.svr_long.specs.Layout.{IsFaultOf, ReadsPage};
 
 use crate::heads::first_pair;
 use std::marker::Model;
@@ -95,6 +95,7 @@ impl PageBuffer {
         requires ready { R.ready reader.old }
         ensures reads { OnOk result (ReadsPage (R.told reader.old) page.now pages.now self.new) }
         ensures err { OnErr result (self.new ≡ []) }
+        ensures fault { IfErr result (IsFaultOf page.now (R.told reader.old)) }
         ensures asked { R.asked reader.old page.now reader.new }
         ensures reader { KeepsReader R.told R.ready R.faults reader.old reader.new result }
     {
