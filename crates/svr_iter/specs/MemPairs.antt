@@ -42,7 +42,7 @@ pub record Follows (p : Pair) (g : Group) : Type 0 where
   pub key_low : g.key ≤ p.key
   pub ids_high : g.key ≡ p.key → Above p.id g.ids
 
-before_low : (p q : Pair) → is_before p q ≡ true → q.key ≤ p.key
+pub before_low : (p q : Pair) → is_before p q ≡ true → q.key ≤ p.key
 before_low p q e = one (nat_lt q.key p.key) (p.key == q.key) (nat_lt p.id q.id) refl refl e
   where
     one : (a b c : Bool) → nat_lt q.key p.key ≡ a → (p.key == q.key) ≡ b → (a || (b && c)) ≡ true → q.key ≤ p.key
@@ -50,7 +50,7 @@ before_low p q e = one (nat_lt q.key p.key) (p.key == q.key) (nat_lt p.id q.id) 
     one false true c f h g = let same : p.key ≡ q.key = eq_from p.key q.key h in omega arith
     one false false c f h g = absurd (cc)
 
-before_high : (p q : Pair) → is_before p q ≡ true → q.key ≡ p.key → p.id < q.id
+pub before_high : (p q : Pair) → is_before p q ≡ true → q.key ≡ p.key → p.id < q.id
 before_high p q e same = one (nat_lt q.key p.key) (p.key == q.key) (nat_lt p.id q.id) refl refl e
   where
     one : (a b c : Bool) → nat_lt q.key p.key ≡ a → nat_lt p.id q.id ≡ c → (a || (b && c)) ≡ true → p.id < q.id
@@ -59,7 +59,7 @@ before_high p q e same = one (nat_lt q.key p.key) (p.key == q.key) (nat_lt p.id 
     one false true false f h g = absurd (cc)
     one false false c f h g = absurd (cc)
 
-before_trans : (p q r : Pair) → is_before p q ≡ true → is_before q r ≡ true → is_before p r ≡ true
+pub before_trans : (p q r : Pair) → is_before p q ≡ true → is_before q r ≡ true → is_before p r ≡ true
 before_trans p q r e f = by_order r.key p.key _
     (λ lt. or_left _ _ (lt_true r.key p.key lt))
     (λ same.
@@ -69,7 +69,7 @@ before_trans p q r e f = by_order r.key p.key _
     or_right _ _ (both_true _ _ (let h : p.key ≡ r.key = sym same in rw h (eq_self r.key)) (lt_true p.id r.id (omega arith))))
     (λ lt. let a = before_low p q e in let b = before_low q r f in absurd (omega arith))
 
-in_range : (p : Pair) → is_in_range p ≡ true → (p.key < 2 ^ 48) × (p.id < 2 ^ 63)
+pub in_range : (p : Pair) → is_in_range p ≡ true → (p.key < 2 ^ 48) × (p.id < 2 ^ 63)
 in_range p e = (lt_from p.key (2 ^ 48) (and_left _ _ e), lt_from p.id (2 ^ 63) (and_right _ _ e))
 
 follow-with : (p q : Pair) (gs : List Group) → is_before p q ≡ true → AllByRecursion (Follows p) gs
@@ -138,13 +138,13 @@ as_groups (g ∷ gs) all = (
   as_groups gs all.1,
 )
 
-before_all : (p q : Pair) (ps : List Pair) → is_before p q ≡ true → AllByRecursion (λ r. is_before q r ≡ true) ps
+pub before_all : (p q : Pair) (ps : List Pair) → is_before p q ≡ true → AllByRecursion (λ r. is_before q r ≡ true) ps
     → AllByRecursion (λ r. is_before p r ≡ true) ps
 before_all p q [] e all = tt
 before_all p q (r ∷ rs) e all = (before_trans p q r e all.0, before_all p q rs e all.1)
 
 -- pairs of which each stands in front of the next
-paged : (ps : List Pair) → list_all is_in_range ps ≡ true → are_in_order ps ≡ true → IsPaged ps
+pub paged : (ps : List Pair) → list_all is_in_range ps ≡ true → are_in_order ps ≡ true → IsPaged ps
 paged [] fit order = tt
 paged (p ∷ []) fit order = (in_range p (and_left _ _ fit), (tt, tt))
 paged (p ∷ q ∷ ps) fit order =
