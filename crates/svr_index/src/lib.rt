@@ -1,0 +1,6 @@
+//! Documents by terms, listed by what ranks them: kept as scores and texts change, and searched.
+#![tactic(auto)]
+
+mod index;
+
+pub use index::Index;

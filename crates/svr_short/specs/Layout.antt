@@ -1,0 +1,54 @@
+-- Words of private clauses: how marks are kept.
+use Rattle.std.specs.Prelude.{◌≡◌, ◌<◌, ◌^◌, ℕ, ◌==◌, ◌&&◌, Bool, false, true, List, Option, Some, None, if◌then◌else◌}
+use Rattle.std.specs.BTreeMap.{is_at}
+use Rattle.std.specs.Option.{IsSome}
+use Rattle.std.specs.Ordering.{nat_cmp, ordering_then}
+use Rattle.std.specs.declared.cmp.Ordering.{Ordering}
+use Rattle.svr_iter.specs.declared.marks.Mark.{Mark}
+use Rattle.svr_iter.specs.declared.marks.Mark.TheVariants as mark
+use Rattle.svr_short.specs.Short.{place_cmp}
+use Rattle.svr_short.specs.declared.place.Holding.{Holding}
+use Rattle.svr_short.specs.declared.place.Place.{Place}
+
+abbrev pub holding_cmp : Holding → Holding → Ordering
+holding_cmp p q = ordering_then (nat_cmp p.id q.id) (nat_cmp p.term q.term)
+
+abbrev pub has_add : Option Mark → Bool
+has_add None = false
+has_add (Some mark.Add) = true
+has_add (Some mark.Rem) = false
+
+abbrev pub key_of : Option Mark → ℕ → Option ℕ
+key_of None key = None
+key_of (Some mark) key = Some key
+
+abbrev pub holding_of : Place → Holding
+holding_of p = record { id = p.id; term = p.term }
+
+-- two terms have two numbers, and each number is below their count
+pub record AreNumbers (count : ℕ) (number : List ℕ → Option ℕ) : Type 0 where
+  pub below : (term : List ℕ) (n : ℕ) → number term ≡ Some n → n < count
+  pub apart : (s t : List ℕ) (n : ℕ) → number s ≡ Some n → number t ≡ Some n → s ≡ t
+
+-- what stands beside the marks: the places of Adds, and the key of each document under each of its terms
+pub record AreMarked (count : ℕ) (marks : Place → Option Mark) (adds : Place → Bool) (held : Holding → Option ℕ) : Type 0 where
+  pub term_below : (p : Place) → IsSome (marks p) → p.term < count
+  pub key_fits : (p : Place) → IsSome (marks p) → p.key < 2 ^ 48
+  pub id_fits : (p : Place) → IsSome (marks p) → p.id < 2 ^ 63
+  pub is_added : (p : Place) → adds p ≡ has_add (marks p)
+  pub is_held : (p : Place) → IsSome (marks p) → held (holding_of p) ≡ Some p.key
+  pub is_marked : (h : Holding) (key : ℕ) → held h ≡ Some key → IsSome (marks (record { term = h.term; key = key; id = h.id }))
+
+-- a document has no mark under a term but at this place
+abbrev pub IsAlone : (Place → Option Mark) → Place → Type 0
+IsAlone marks p = (q : Place) → IsSome (marks q) → holding_of q ≡ holding_of p → q.key ≡ p.key
+
+-- a place has this mark now, or none, and every other its own
+abbrev pub SetsMark : (old new : Place → Option Mark) → Place → Option Mark → Type 0
+SetsMark old new p mark = (q : Place) → new q ≡ (if is_at (place_cmp p) q then mark else old q)
+
+abbrev pub SetsAdd : (old new : Place → Bool) → Place → Option Mark → Type 0
+SetsAdd old new p mark = (q : Place) → new q ≡ (if is_at (place_cmp p) q then has_add mark else old q)
+
+abbrev pub SetsHolding : (old new : Holding → Option ℕ) → Place → Option Mark → Type 0
+SetsHolding old new p mark = (h : Holding) → new h ≡ (if is_at (holding_cmp (holding_of p)) h then key_of mark p.key else old h)
