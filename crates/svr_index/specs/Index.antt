@@ -1,5 +1,5 @@
 -- What an index keeps, and which listing it stands for.
-use Rattle.std.specs.Prelude.{◌≡◌, ℕ, ◌==◌, Bool, false, List, [], map, find, Option, Some, None, IfSome, IsSome, unwrap_or, if◌then◌else◌}
+use Rattle.std.specs.Prelude.{◌≡◌, ℕ, ◌==◌, ◌&&◌, Bool, false, not, List, [], map, find, Option, Some, None, IfSome, IsSome, unwrap_or, if◌then◌else◌}
 use Rattle.std.specs.Option.{ForSome}
 use Rattle.svr_num.specs.declared.list_key.ListKey.{ListKey}
 use Rattle.svr_postpage.specs.declared.page_ref.PageRef.{PageRef}
@@ -81,3 +81,28 @@ pub record IsEdited (old new : List (List ℕ)) (before now : Option Document) :
   pub score : ℕ
   pub was : IsWith score old before
   pub is : IsWith score new now
+
+-- ---- after a merge
+
+-- a document is moved, if it is listed
+abbrev pub is_moved : Option ListKey → Bool
+is_moved None = false
+is_moved (Some entry) = entry.moved
+
+-- rules, entries and pages are those of a listing, in which no unmoved document has a mark
+pub record IsFresh (method : Chosen) (entries : List (ℕ × ListKey)) (pages : List (List ℕ × List PageRef)) (l : Listing) : Type 0 where
+  pub rules : chosen_rules method ≡ l.rules
+  pub entries_are : (id : ℕ) → value_at entries id ≡ entry_of l.documents id
+  pub pages_are : (term : List ℕ) → unwrap_or (pages_at pages term) [] ≡ map (λ page. page.head) (pages_of l.lists term)
+  pub unmarked : (term : List ℕ) (key id : ℕ) → is_moved (entry_of l.documents id) ≡ false → mark_by_listing l term key id ≡ None
+
+-- an index stands for such a listing, but for its moved documents, which are still to be placed
+abbrev pub Installs : Indexed → Chosen → List (ℕ × ListKey) → List (List ℕ × List PageRef) → Type 0
+Installs index method entries pages =
+    (l : Listing) → IsFresh method entries pages l → StandsBut (λ id. is_moved (entry_of l.documents id)) index l
+
+-- a document with these terms is placed, and all others are as they were
+abbrev pub Places : Indexed → Indexed → ℕ → List (List ℕ) → Type 0
+Places old new id terms =
+    (pending : ℕ → Bool) (l : Listing) (score : ℕ) → StandsBut pending old l → IsWith score terms (document_at (documents_of l) id)
+    → StandsBut (λ other. not (id == other) && pending other) new l

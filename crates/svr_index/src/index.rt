@@ -1,7 +1,7 @@
 ghost use Rattle.std.specs.Prelude.{◌≡◌, ◌<◌, ◌≤◌, ◌^◌, ℕ, List, IsSome, None, OnOk, Some, true};
 ghost use Rattle.svr_chunks.specs.Chosen.{chosen_rules};
 ghost use Rattle.svr_idmap.specs.Ids.{SetsValue, value_at};
-ghost use Rattle.svr_index.specs.Index.{Comes, Follows, Goes, IsEdited, IsScored};
+ghost use Rattle.svr_index.specs.Index.{Comes, Follows, Goes, Installs, IsEdited, IsScored, Places, is_moved};
 ghost use Rattle.svr_short.specs.Short.{HasMarks, KeepsOthers, adds_at};
 ghost use Rattle.svr_tokens.specs.Tokens.{has_term};
 
@@ -149,5 +149,45 @@ impl Index {
                 Err(memory)
             }
         }
+    }
+
+    /// Takes the method, entries and pages of a merge. All marks go, and each moved document is still to be placed. It takes no memory.
+    pub fn install(&mut self, alloc: Global, lists: LongLists, method: Chosen, keys: ListKeys)
+        ensures { Installs self.new method keys lists }
+    {
+        self.method = method;
+        self.keys = keys;
+        self.short = ShortLists::new(alloc);
+        self.long = lists;
+    }
+
+    /// Places a moved document under its terms.
+    pub fn place_moved(
+        &mut self,
+        alloc: Global,
+        id: DocId,
+        terms: &Tokens,
+    ) -> Result<(), Memory>
+        requires id { id < 2 ^ 63 }
+        requires moved { is_moved (value_at self.old.entries id) ≡ true }
+        ensures { OnOk result (Places self.old self.new id terms.now) }
+    {
+        let Some(entry) = self.keys.get(id) else {
+            return Ok(());
+        };
+        match self.short.place(alloc, id, entry.key, terms) {
+            Ok(()) => Ok(()),
+            Err(memory) => {
+                self.short = ShortLists::new(alloc);
+                Err(memory)
+            }
+        }
+    }
+
+    /// The posted pages of all terms.
+    pub fn page_refs(&self) -> &LongLists
+        ensures { result.now ≡ self.now.pages }
+    {
+        &self.long
     }
 }
