@@ -225,7 +225,7 @@ is_add-from mark.Add e = refl
 is_add-from mark.Rem e = absurd (cc)
 
 -- the first Add has its id
-some_add : (ms : List Marked) → Up (ids_of ms) → has_add ms ≡ true
+pub some_add : (ms : List Marked) → Up (ids_of ms) → has_add ms ≡ true
     → (id : ℕ) × (mark_of id ms ≡ Some mark.Add) × ((P : ℕ → Type 0) → AllByRecursion P (ids_of ms) → P id)
 some_add [] up e = absurd (cc)
 some_add (m ∷ ms) up e = one (is_add m.mark) refl e (some_add ms up.1)
@@ -239,7 +239,7 @@ some_add (m ∷ ms) up e = one (is_add m.mark) refl e (some_add ms up.1)
         let above : m.id < r.0 = r.2 (λ id. m.id < id) up.0 in
         (r.0, rw (eq_less m.id r.0 above) r.1, λ P all. r.2 P all.1)
 
-add_there : (id : ℕ) (ms : List Marked) → mark_of id ms ≡ Some mark.Add → has_add ms ≡ true
+pub add_there : (id : ℕ) (ms : List Marked) → mark_of id ms ≡ Some mark.Add → has_add ms ≡ true
 add_there id [] e = absurd (cc)
 add_there id (m ∷ ms) e = one (m.id == id) e (add_there id ms)
   where

@@ -1,7 +1,6 @@
 -- The marks of a term are in order, whatever the lists.
-use Rattle.std.proofs.Common.{◌≡◌, ℕ, ◌<◌, ◌^◌, ◌==◌, ◌&&◌, Bool, true, false, cond, List, [], ◌∷◌, map, filter, nat_lt, Option, Some, None, refl, ap, subst, ◌∙◌, arith}
+use Rattle.std.proofs.Common.{◌≡◌, ℕ, ◌<◌, ◌^◌, ◌==◌, ◌&&◌, Bool, true, false, cond, List, [], ◌∷◌, map, filter, nat_lt, Option, Some, None, refl, ap}
 use Rattle.std.specs.List.{AllByRecursion}
-use Rattle.svr_iter.specs.GroupLaws.{Up-filter}
 use Rattle.svr_iter.specs.KeyLaws.{AreDescending, descending-all, descending-down}
 use Rattle.svr_iter.specs.Marks.{AreMarks, IsMarksAt, MarksAt, ids_of}
 use Rattle.svr_iter.specs.Merging.{Up, Up-with_id, all-with_id}
@@ -9,12 +8,11 @@ use Rattle.svr_iter.specs.Truths.{and_right, eq_from, lt_from}
 use Rattle.svr_iter.specs.declared.marks.Mark.{Mark}
 use Rattle.svr_iter.specs.declared.marks.Marked.{Marked}
 use Rattle.svr_listing.specs.Joined.{with_id}
-use Rattle.svr_listing.specs.Listing.{descending}
 use Rattle.svr_short.specs.Short.{Lists, is_under, keys_under, marks_of, marks_under, number_of, under_number, with_mark}
 use Rattle.svr_short.specs.declared.place.Place.{Place}
 
 -- the ids with a mark more are those with its id more
-ids-with_mark : (m : Marked) (ms : List Marked) → ids_of (with_mark m ms) ≡ with_id m.id (ids_of ms)
+pub ids-with_mark : (m : Marked) (ms : List Marked) → ids_of (with_mark m ms) ≡ with_id m.id (ids_of ms)
 ids-with_mark m [] = refl
 ids-with_mark m (n ∷ ms) = one (nat_lt m.id n.id) (m.id == n.id) refl (ids-with_mark m ms)
   where
@@ -28,7 +26,7 @@ ids-with_mark m (n ∷ ms) = one (nat_lt m.id n.id) (m.id == n.id) refl (ids-wit
 abbrev pub AreUnder : List ℕ → Type 0
 AreUnder ids = Up ids × AllByRecursion (λ id. id < 2 ^ 63) ids
 
-are_under : (n key : ℕ) (es : List (Place × Mark)) → AreUnder (ids_of (marks_under n key es))
+pub are_under : (n key : ℕ) (es : List (Place × Mark)) → AreUnder (ids_of (marks_under n key es))
 are_under n key [] = (tt, tt)
 are_under n key (e ∷ es) = one (is_under n key e.0) refl (are_under n key es)
   where

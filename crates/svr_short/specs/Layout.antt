@@ -1,12 +1,13 @@
 -- Words of private clauses: how marks are kept.
 use Rattle.std.specs.Prelude.{◌≡◌, ◌<◌, ◌^◌, ℕ, ◌==◌, ◌&&◌, Bool, false, true, List, Option, Some, None, if◌then◌else◌}
 use Rattle.std.specs.BTreeMap.{is_at}
+use Rattle.std.specs.List.{list_any}
 use Rattle.std.specs.Option.{IsSome}
 use Rattle.std.specs.Ordering.{nat_cmp, ordering_then}
 use Rattle.std.specs.declared.cmp.Ordering.{Ordering}
 use Rattle.svr_iter.specs.declared.marks.Mark.{Mark}
 use Rattle.svr_iter.specs.declared.marks.Mark.TheVariants as mark
-use Rattle.svr_short.specs.Short.{place_cmp}
+use Rattle.svr_short.specs.Short.{HasMarks, KeepsOthers, Lists, mark_at, mark_in, mark_turned, place_cmp}
 use Rattle.svr_short.specs.declared.place.Holding.{Holding}
 use Rattle.svr_short.specs.declared.place.Place.{Place}
 
@@ -17,6 +18,10 @@ abbrev pub has_add : Option Mark → Bool
 has_add None = false
 has_add (Some mark.Add) = true
 has_add (Some mark.Rem) = false
+
+-- whether there is an Add under a number
+abbrev pub any_add : List (Place × Mark) → ℕ → Bool
+any_add marks n = list_any (λ e. (e.0.term == n) && has_add (mark_at marks e.0)) marks
 
 abbrev pub key_of : Option Mark → ℕ → Option ℕ
 key_of None key = None
@@ -52,3 +57,11 @@ SetsAdd old new p mark = (q : Place) → new q ≡ (if is_at (place_cmp p) q the
 
 abbrev pub SetsHolding : (old new : Holding → Option ℕ) → Place → Option Mark → Type 0
 SetsHolding old new p mark = (h : Holding) → new h ≡ (if is_at (holding_cmp (holding_of p)) h then key_of mark p.key else old h)
+
+-- the marks of a document after it has been given a mark under each of some terms, or the other one there has gone away
+abbrev pub all_turned_at : ℕ → (List ℕ → Bool) → Mark → (List ℕ → ℕ → Option Mark) → List ℕ → ℕ → Option Mark
+all_turned_at at some mark old term key = if (at == key) && some term then mark_turned mark (old term key) else old term key
+
+pub record IsTurned (first now : Lists) (id key : ℕ) (mark : Mark) (some : List ℕ → Bool) : Type 0 where
+  pub others : KeepsOthers first now id
+  pub marks : HasMarks now id (all_turned_at key some mark (λ t at. mark_in first t at id))

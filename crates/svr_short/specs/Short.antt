@@ -1,5 +1,5 @@
 -- Marks of documents under terms, by look-ups.
-use Rattle.std.specs.Prelude.{◌≡◌, ⊤, IfSome, IsSome, ◌<◌, ◌^◌, ℕ, ◌==◌, ◌&&◌, Bool, false, true, List, [], ◌∷◌, map, filter, nat_lt, Option, Some, None, if◌then◌else◌}
+use Rattle.std.specs.Prelude.{◌≡◌, ⊤, IfSome, IsSome, ◌^◌, ℕ, ◌==◌, ◌&&◌, Bool, false, List, [], ◌∷◌, map, filter, nat_lt, not, Option, Some, None, if◌then◌else◌}
 use Rattle.std.specs.BTreeMap.{is_at}
 use Rattle.std.specs.Cmp.Lexicographic.{slice_cmp}
 use Rattle.std.specs.Map.{lookup}
@@ -13,6 +13,7 @@ use Rattle.svr_iter.specs.declared.marks.Mark.{Mark}
 use Rattle.svr_iter.specs.declared.marks.Mark.TheVariants as mark
 use Rattle.svr_iter.specs.declared.marks.Marked.{Marked}
 use Rattle.svr_short.specs.declared.place.Place.{Place}
+use Rattle.svr_tokens.specs.Tokens.{has_term}
 
 -- the numbers of terms, and the marks under these numbers
 pub record Lists : Type 0 where
@@ -97,6 +98,10 @@ abbrev pub mark_removed : Option Mark → Option Mark
 mark_removed None = Some mark.Rem
 mark_removed (Some mark.Add) = None
 mark_removed (Some mark.Rem) = Some mark.Rem
+
+-- one of the terms that others lack
+abbrev pub lacks : List (List ℕ) → List (List ℕ) → List ℕ → Bool
+lacks others terms term = has_term terms term && not (has_term others term)
 
 -- the marks of a document at its key after terms have come and others have gone
 abbrev pub edited_at : ℕ → (List ℕ → Bool) → (List ℕ → Bool) → (List ℕ → ℕ → Option Mark) → List ℕ → ℕ → Option Mark

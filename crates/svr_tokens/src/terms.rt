@@ -1,7 +1,9 @@
 ghost use Rattle.std.specs.Prelude.{◌≡◌, ◌<◌, ◌↔◌, ℕ, List, IfOk, IsTrue, Some, length, nat_eq};
 ghost use Rattle.std.specs.Cmp.{partial_equiv_from_equiv};
-ghost use Rattle.std.specs.Cmp.Lexicographic.{pointwise, lists_equiv, nat_list_eq_equiv};
+ghost use Rattle.std.specs.Cmp.Lexicographic.{pointwise, lists_equiv, nat_list_eq_equiv, slice_cmp};
 ghost use Rattle.std.specs.List.{slice_get, Contains};
+ghost use Rattle.std.specs.List.Sorted.{IsStrictlySortedBy};
+ghost use Rattle.std.specs.Ordering.{nat_cmp};
 ghost use Rattle.svr_tokens.specs.Tokens.{has_term, has_all_terms, has_any_terms};
 
 use std::alloc::Global;
@@ -39,7 +41,8 @@ impl Tokens {
 
     /// The number of terms.
     pub fn len(&self) -> usize
-        ensures { result ≡ length self.now }
+        ensures count { result ≡ length self.now }
+        ensures ascending { IsStrictlySortedBy (slice_cmp nat_cmp) self.now }
     {
         self.terms.len()
     }
