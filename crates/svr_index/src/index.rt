@@ -21,10 +21,10 @@ use svr_tokens::Tokens;
 /// After `Memory` of a call that changes it, an index is spent: nothing is said of what it stands for.
 #[derive(Drop)]
 pub struct Index {
-    method: Chosen,
-    keys: ListKeys,
-    short: ShortLists,
-    long: LongLists,
+    pub(crate) method: Chosen,
+    pub(crate) keys: ListKeys,
+    pub(crate) short: ShortLists,
+    pub(crate) long: LongLists,
 }
 
 impl Model for Index {

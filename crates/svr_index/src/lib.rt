@@ -2,5 +2,6 @@
 #![tactic(auto)]
 
 mod index;
+mod search;
 
 pub use index::Index;

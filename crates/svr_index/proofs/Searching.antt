@@ -1,0 +1,120 @@
+-- A search over the lists of terms answers the query.
+use Rattle.std.proofs.Common.{◌≡◌, ℕ, zero, suc, ◌+◌, ◌-◌, ◌≤◌, ◌==◌, ◌||◌, Bool, true, false, List, [], ◌∷◌, ◌++◌, length, map, take, drop, slice_range, Option, Some, None, refl, ap, ap₂, sym, subst, ◌∙◌, arith, eqb-true}
+use Rattle.std.specs.List.{list_all, list_any, slice_get}
+use Rattle.std.specs.Option.{ForSome, option_map_or}
+use Rattle.std.proofs.lemmas.Bool.{and_parts}
+use Rattle.std.proofs.lemmas.List.{length-drop, take_all}
+use Rattle.svr_chunks.specs.Chosen.{chosen_rules}
+use Rattle.svr_chunks.specs.declared.chosen.Chosen.{Chosen}
+use Rattle.svr_idmap.specs.Ids.{value_at}
+use Rattle.svr_iter.specs.Marks.{is_listed}
+use Rattle.svr_listing.specs.Joined.{groups_in_all, groups_in_any, term_groups}
+use Rattle.svr_listing.specs.Kept.{Ascends}
+use Rattle.svr_listing.specs.Listing.{Listing, documents_of, groups_by_bytes}
+use Rattle.svr_listing.specs.Methods.{Rules}
+use Rattle.svr_listing.specs.Visits.{IsAnswer}
+use Rattle.svr_listing.specs.declared.group.Group.{Group}
+use Rattle.svr_listing.proofs.Fronting.{groups-front}
+use Rattle.svr_listing.proofs.Joining.{all-joined_by_bytes, any-joined_by_bytes}
+use Rattle.svr_long.specs.Cursor.{page_pairs}
+use Rattle.svr_match.specs.Joined.{may_in}
+use Rattle.svr_num.specs.declared.hit.Hit.{Hit}
+use Rattle.svr_num.specs.declared.list_key.ListKey.{ListKey}
+use Rattle.svr_num.specs.declared.mode.Mode.{Mode}
+use Rattle.svr_num.specs.declared.mode.Mode.TheVariants as mode
+use Rattle.svr_index.specs.Index.{Indexed, StandsFor}
+use Rattle.svr_index.specs.Layout.{AreListsOf, TermList, groups_of_list, may_of_list}
+use Rattle.svr_index.specs.Search.{AnswersBy, AreWithinBounds}
+
+-- ---- where documents may come
+
+none_of : (index : Indexed) (key id : ℕ) (lists : List TermList) → AreListsOf index [] lists
+    → list_any (λ may. may key id) (map may_of_list lists) ≡ true → is_listed (value_at index.entries) key id ≡ true
+none_of index key id [] are e = absurd (cc)
+none_of index key id (l ∷ ls) are e = absurd are
+
+pub listed-any : (index : Indexed) (key id : ℕ) (terms : List (List ℕ)) (lists : List TermList) → AreListsOf index terms lists
+    → list_any (λ may. may key id) (map may_of_list lists) ≡ true → is_listed (value_at index.entries) key id ≡ true
+listed-any index key id [] lists are e = none_of index key id lists are e
+listed-any index key id (t ∷ ts) [] are e = absurd are
+listed-any index key id (t ∷ ts) (l ∷ ls) are e =
+    by (may_of_list l key id) refl (listed-any index key id ts ls are.1) e
+  where
+    by : (b : Bool) → may_of_list l key id ≡ b
+        → (list_any (λ may. may key id) (map may_of_list ls) ≡ true → is_listed (value_at index.entries) key id ≡ true)
+        → (b || list_any (λ may. may key id) (map may_of_list ls)) ≡ true → is_listed (value_at index.entries) key id ≡ true
+    by true at rest e = sym (ap (λ (f : ℕ → ℕ → Bool). f key id) are.0.may_is) ∙ at
+    by false at rest e = rest e
+
+pub listed-all : (index : Indexed) (key id : ℕ) (term : List ℕ) (terms : List (List ℕ)) (list : TermList) (lists : List TermList)
+    → AreListsOf index (term ∷ terms) (list ∷ lists) → list_all (λ may. may key id) (map may_of_list (list ∷ lists)) ≡ true
+    → is_listed (value_at index.entries) key id ≡ true
+listed-all index key id term terms list lists are e =
+    sym (ap (λ (f : ℕ → ℕ → Bool). f key id) are.0.may_is) ∙ (and_parts (may_of_list list key id) (list_all (λ may. may key id) (map may_of_list lists)) e).0
+
+pub within-bound : (index : Indexed) (score : ℕ → Option ℕ) (key id : ℕ) → AreWithinBounds index score
+    → is_listed (value_at index.entries) key id ≡ true → ForSome (score id) (λ s. s ≤ (chosen_rules index.method).bound key)
+within-bound index score key id within listed = by (value_at index.entries id) refl listed
+  where
+    by : (o : Option ListKey) → value_at index.entries id ≡ o → option_map_or (λ (at : ListKey). at.key == key) o false ≡ true
+        → ForSome (score id) (λ s. s ≤ (chosen_rules index.method).bound key)
+    by None e l = absurd (cc)
+    by (Some entry) e l = λ s at.
+        subst (λ (k : ℕ). s ≤ (chosen_rules index.method).bound k) (eqb-true entry.key key l) (within id entry e s at)
+
+-- ---- the groups of the lists
+
+pub groups-are : (index : Indexed) (l : Listing) (bytes : List ℕ) (terms : List (List ℕ)) (lists : List TermList) → Ascends (documents_of l)
+    → StandsFor index l → AreListsOf index terms lists
+    → map (λ (p : TermList). groups_of_list p bytes) lists ≡ map (term_groups (page_pairs bytes) l) terms
+groups-are index l bytes [] [] up stood are = refl
+groups-are index l bytes [] (p ∷ ps) up stood are = absurd are
+groups-are index l bytes (t ∷ ts) [] up stood are = absurd are
+groups-are index l bytes (t ∷ ts) (p ∷ ps) up stood are =
+    ap₂ (λ (g : List Group) (gs : List (List Group)). g ∷ gs) (are.0.groups_are l bytes up stood) (groups-are index l bytes ts ps up stood are.1)
+
+-- terms with the one at a place taken out
+split_at : (terms : List (List ℕ)) (n : ℕ) (term : List ℕ) → slice_get terms n ≡ Some term
+    → terms ≡ take n terms ++ term ∷ drop (suc n) terms
+split_at [] n term e = absurd (cc)
+split_at (t ∷ ts) zero term e = let same : t ≡ term = cc in ap (λ (x : List ℕ). x ∷ ts) same
+split_at (t ∷ ts) (suc n) term e = ap (λ (l : List (List ℕ)). t ∷ l) (split_at ts n term e)
+
+pub parted : (terms : List (List ℕ)) (n : ℕ) (term : List ℕ) → slice_get terms n ≡ Some term
+    → terms ≡ slice_range terms 0 n ++ term ∷ slice_range terms (n + 1) (length terms)
+parted terms n term e =
+    let none : n ≡ n - 0 = omega arith in
+    let one : suc n ≡ n + 1 = omega arith in
+    let all : length (drop (n + 1) terms) ≤ length terms - (n + 1) = (let l = length-drop (n + 1) terms in omega (arith, l)) in
+    split_at terms n term e
+    ∙ ap₂ (λ (front behind : List (List ℕ)). front ++ term ∷ behind) (ap (λ (m : ℕ). take m terms) none)
+    (ap (λ (m : ℕ). drop m terms) one ∙ sym (take_all (length terms - (n + 1)) (drop (n + 1) terms) all))
+
+pub answers-all : (index : Indexed) (terms front behind : List (List ℕ)) (term : List ℕ) (list : TermList) (lists : List TermList)
+    (method : Chosen) (gs : List Group) (k : ℕ) (score : ℕ → Option ℕ) (bytes : List ℕ) (hits : List Hit) (visits : ℕ)
+    → terms ≡ front ++ term ∷ behind → AreListsOf index (term ∷ (front ++ behind)) (list ∷ lists) → method ≡ index.method
+    → gs ≡ groups_in_all (map (λ (p : TermList). groups_of_list p bytes) (list ∷ lists))
+    → IsAnswer k (chosen_rules method).bound score gs hits visits → AnswersBy index terms mode.All k score bytes hits visits
+answers-all index terms front behind term list lists method gs k score bytes hits visits parts are same e answer l up stood =
+    let groups : gs ≡ groups_by_bytes (page_pairs bytes) l terms mode.All =
+    e ∙ ap groups_in_all (groups-are index l bytes (term ∷ (front ++ behind)) (list ∷ lists) up stood are)
+    ∙ all-joined_by_bytes (page_pairs bytes) l up term (front ++ behind)
+    ∙ sym (groups-front (page_pairs bytes) l term front behind mode.All)
+    ∙ ap (λ (ts : List (List ℕ)). groups_by_bytes (page_pairs bytes) l ts mode.All) (sym parts) in
+    subst (λ (r : Rules). IsAnswer k r.bound score (groups_by_bytes (page_pairs bytes) l terms mode.All) hits visits)
+    (ap chosen_rules same ∙ stood.rules)
+    (subst (λ (gs : List Group). IsAnswer k (chosen_rules method).bound score gs hits visits) groups answer)
+
+pub answers-any : (index : Indexed) (terms : List (List ℕ)) (lists : List TermList)
+    (method : Chosen) (gs : List Group) (k : ℕ) (score : ℕ → Option ℕ) (bytes : List ℕ) (hits : List Hit) (visits : ℕ)
+    → AreListsOf index terms lists → method ≡ index.method → gs ≡ groups_in_any (map (λ (p : TermList). groups_of_list p bytes) lists)
+    → IsAnswer k (chosen_rules method).bound score gs hits visits → AnswersBy index terms mode.Any k score bytes hits visits
+answers-any index terms lists method gs k score bytes hits visits are same e answer l up stood =
+    let groups : gs ≡ groups_by_bytes (page_pairs bytes) l terms mode.Any =
+    e ∙ ap groups_in_any (groups-are index l bytes terms lists up stood are) ∙ any-joined_by_bytes (page_pairs bytes) l up terms in
+    subst (λ (r : Rules). IsAnswer k r.bound score (groups_by_bytes (page_pairs bytes) l terms mode.Any) hits visits)
+    (ap chosen_rules same ∙ stood.rules)
+    (subst (λ (gs : List Group). IsAnswer k (chosen_rules method).bound score gs hits visits) groups answer)
+
+pub whole_range : (terms : List (List ℕ)) → slice_range terms 0 (length terms) ≡ terms
+whole_range terms = take_all (length terms - 0) terms (omega arith)

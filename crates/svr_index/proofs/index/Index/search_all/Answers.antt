@@ -1,0 +1,42 @@
+use Rattle.std.proofs.Common.{◌≡◌, ◌≤◌, ◌∷◌, ◌++◌, ◌+◌, ℕ, Bool, List, [], length, slice_range, refl, ap, sym, subst, ◌∙◌}
+use Rattle.std.proofs.lemmas.Result.{IfOk-weaker}
+use Rattle.std.specs.Option.{ForSome}
+use Rattle.svr_chunks.specs.Chosen.{chosen_rules}
+use Rattle.svr_chunks.specs.declared.chosen.Chosen.{Chosen}
+use Rattle.svr_listing.specs.Visits.{IsAnswer}
+use Rattle.svr_listing.specs.declared.group.Group.{Group}
+use Rattle.svr_num.specs.declared.mode.Mode.TheVariants as mode
+use Rattle.svr_index.specs.Index.{Indexed}
+use Rattle.svr_index.specs.Layout.{AreListsOf, TermList}
+use Rattle.svr_index.specs.Search.{AnswersBy}
+use Rattle.svr_index.proofs.Searching.{answers-all, listed-all, parted, within-bound}
+use Rattle.svr_index.proofs.index.Index.search_all.Goals as goal
+
+pub scan-requires-clause-bounded : goal.scan-requires-clause-bounded
+scan-requires-clause-bounded g c key id may =
+    let front = slice_range c.args.terms.now 0 c.rarest-rarest.result in
+    let behind = slice_range c.args.terms.now (c.rarest-rarest.result + 1) c.len-end.result in
+    let others : AreListsOf c.args.self.now (front ++ behind) c.push_lists-2.new.lists.items =
+    c.in_ok-push_lists-2.ensures front (c.in_ok-push_lists.ensures [] (subst (AreListsOf c.args.self.now []) (sym c.new-others.ensures.items) tt)) in
+    subst (λ (m : Chosen). ForSome (g.S.Scores.score_of c.args.scores.now id) (λ s. s ≤ (chosen_rules m).bound key))
+    (ap (λ (i : Indexed). i.method) (sym c.self.view_is))
+    (within-bound c.args.self.now (g.S.Scores.score_of c.args.scores.now) key id c.requires.bounded
+    (listed-all c.args.self.now key id c.get.result.now (front ++ behind) c.list_of-first.result c.push_lists-2.new.lists.items
+    (c.list_of-first.ensures, others)
+    (sym (ap (λ (f : ℕ → ℕ → Bool). f key id) c.new-matches.ensures.may) ∙ may)))
+
+pub returns-clause-answer : goal.returns-clause-answer
+returns-clause-answer g c =
+    let front = slice_range c.args.terms.now 0 c.rarest-rarest.result in
+    let behind = slice_range c.args.terms.now (c.rarest-rarest.result + 1) c.len-end.result in
+    let others : AreListsOf c.args.self.now (front ++ behind) c.push_lists-2.new.lists.items =
+    c.in_ok-push_lists-2.ensures front (c.in_ok-push_lists.ensures [] (subst (AreListsOf c.args.self.now []) (sym c.new-others.ensures.items) tt)) in
+    IfOk-weaker c.scan.result _ _
+    (λ answer is bytes at.
+    answers-all c.args.self.now c.args.terms.now front behind c.get.result.now c.list_of-first.result c.push_lists-2.new.lists.items
+    c.self.inside.method _ c.args.k (g.S.Scores.score_of c.args.scores.now) bytes answer.hits answer.groups
+    (parted c.args.terms.now c.rarest-rarest.result c.get.result.now c.get.ensures
+    ∙ ap (λ (n : ℕ). front ++ c.get.result.now ∷ slice_range c.args.terms.now (c.rarest-rarest.result + 1) n) (sym c.len-end.ensures.count))
+    (c.list_of-first.ensures, others)
+    (ap (λ (i : Indexed). i.method) c.self.view_is) (c.new-matches.ensures.groups bytes) (is bytes at))
+    c.scan.ensures.found

@@ -1,0 +1,23 @@
+-- What a search answers.
+use Rattle.std.specs.Prelude.{◌≡◌, ◌≤◌, ℕ, List, Option}
+use Rattle.std.specs.Option.{ForSome}
+use Rattle.svr_chunks.specs.Chosen.{chosen_rules}
+use Rattle.svr_idmap.specs.Ids.{value_at}
+use Rattle.svr_listing.specs.Kept.{Ascends}
+use Rattle.svr_listing.specs.Listing.{Listing, documents_of, groups_by_bytes}
+use Rattle.svr_listing.specs.Visits.{IsAnswer}
+use Rattle.svr_long.specs.Cursor.{page_pairs}
+use Rattle.svr_num.specs.declared.hit.Hit.{Hit}
+use Rattle.svr_num.specs.declared.mode.Mode.{Mode}
+use Rattle.svr_index.specs.Index.{Indexed, StandsFor}
+
+-- no listed document has a score above the bound of its key
+abbrev pub AreWithinBounds : Indexed → (ℕ → Option ℕ) → Type 0
+AreWithinBounds index score =
+    (id : ℕ) → ForSome (value_at index.entries id) (λ entry. ForSome (score id) (λ s. s ≤ (chosen_rules index.method).bound entry.key))
+
+-- hits and the number of visited groups are those of the query by bytes told, in each listing that the index stands for
+abbrev pub AnswersBy : Indexed → List (List ℕ) → Mode → ℕ → (ℕ → Option ℕ) → List ℕ → List Hit → ℕ → Type 0
+AnswersBy index terms m k score bytes hits visits =
+    (l : Listing) → Ascends (documents_of l) → StandsFor index l
+    → IsAnswer k l.rules.bound score (groups_by_bytes (page_pairs bytes) l terms m) hits visits
