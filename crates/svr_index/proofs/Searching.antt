@@ -1,6 +1,6 @@
 -- A search over the lists of terms answers the query.
-use Rattle.std.proofs.Common.{◌≡◌, ℕ, zero, suc, ◌+◌, ◌-◌, ◌≤◌, ◌==◌, ◌||◌, Bool, true, false, List, [], ◌∷◌, ◌++◌, length, map, take, drop, slice_range, Option, Some, None, refl, ap, ap₂, sym, subst, ◌∙◌, arith, eqb-true}
-use Rattle.std.specs.List.{list_all, list_any, slice_get}
+use Rattle.std.proofs.Common.{◌≡◌, ℕ, zero, suc, ◌+◌, ◌-◌, ◌<◌, ◌≤◌, ◌==◌, ◌||◌, Bool, true, false, List, [], ◌∷◌, ◌++◌, length, map, take, drop, slice_range, Option, Some, None, refl, ap, ap₂, sym, subst, ◌∙◌, arith, eqb-true}
+use Rattle.std.specs.List.{AllByRecursion, list_all, list_any, slice_get}
 use Rattle.std.specs.Option.{ForSome, option_map_or}
 use Rattle.std.proofs.lemmas.Bool.{and_parts}
 use Rattle.std.proofs.lemmas.List.{length-drop, take_all}
@@ -9,14 +9,19 @@ use Rattle.svr_chunks.specs.declared.chosen.Chosen.{Chosen}
 use Rattle.svr_idmap.specs.Ids.{value_at}
 use Rattle.svr_iter.specs.Marks.{is_listed}
 use Rattle.svr_listing.specs.Joined.{groups_in_all, groups_in_any, term_groups}
-use Rattle.svr_listing.specs.Kept.{Ascends}
-use Rattle.svr_listing.specs.Listing.{Listing, documents_of, groups_by_bytes}
+use Rattle.svr_listing.specs.Kept.{AreInOrder, Ascends, BeginsRight}
+use Rattle.svr_listing.specs.declared.pages.Page.{Page}
+use Rattle.svr_listing.specs.Listing.{Listing, documents_of, groups_by_bytes, groups_of, pages_of}
 use Rattle.svr_listing.specs.Methods.{Rules}
 use Rattle.svr_listing.specs.Visits.{IsAnswer}
 use Rattle.svr_listing.specs.declared.group.Group.{Group}
 use Rattle.svr_listing.proofs.Fronting.{groups-front}
 use Rattle.svr_listing.proofs.Joining.{all-joined_by_bytes, any-joined_by_bytes}
-use Rattle.svr_long.specs.Cursor.{page_pairs}
+use Rattle.svr_listing.proofs.Answering.{search-is}
+use Rattle.svr_listing.proofs.ByBytes.{groups_by_bytes-is}
+use Rattle.svr_long.specs.Cursor.{or_first, page_pairs}
+use Rattle.svr_postpage.specs.Wanted.{pairs_told}
+use mathlib.Core.Path.{fun_ext}
 use Rattle.svr_match.specs.Joined.{may_in}
 use Rattle.svr_num.specs.declared.hit.Hit.{Hit}
 use Rattle.svr_num.specs.declared.list_key.ListKey.{ListKey}
@@ -24,7 +29,7 @@ use Rattle.svr_num.specs.declared.mode.Mode.{Mode}
 use Rattle.svr_num.specs.declared.mode.Mode.TheVariants as mode
 use Rattle.svr_index.specs.Index.{Indexed, StandsFor}
 use Rattle.svr_index.specs.Layout.{AreListsOf, TermList, groups_of_list, may_of_list}
-use Rattle.svr_index.specs.Search.{AnswersBy, AreWithinBounds}
+use Rattle.svr_index.specs.Search.{AnswersBy, AreWithinBounds, FindsBest}
 
 -- ---- where documents may come
 
@@ -118,3 +123,26 @@ answers-any index terms lists method gs k score bytes hits visits are same e ans
 
 pub whole_range : (terms : List (List ℕ)) → slice_range terms 0 (length terms) ≡ terms
 whole_range terms = take_all (length terms - 0) terms (omega arith)
+
+-- ---- where the bytes hold the posted pairs
+
+-- a page that holds its pairs holds its first one
+first : (bytes : List ℕ) (page : Page) → BeginsRight page → pairs_told bytes page.head ≡ page.pairs → page_pairs bytes page.head ≡ page.pairs
+first bytes page begins e =
+    ap (or_first page.head) (e ∙ begins.1) ∙ sym begins.1
+
+holds_all : (bytes : List ℕ) (pages : List Page) → AreInOrder pages → AllByRecursion (λ (page : Page). pairs_told bytes page.head ≡ page.pairs) pages
+    → AllByRecursion (λ (page : Page). page_pairs bytes page.head ≡ page.pairs) pages
+holds_all bytes [] order all = tt
+holds_all bytes (page ∷ []) order all = (first bytes page order all.0, tt)
+holds_all bytes (page ∷ next ∷ pages) order all = (first bytes page order.0 all.0, holds_all bytes (next ∷ pages) order.2 all.1)
+
+pub best-found : (index : Indexed) (terms : List (List ℕ)) (m : Mode) (k : ℕ) (score : ℕ → Option ℕ) (bytes : List ℕ) (hits : List Hit) (visits : ℕ)
+    → 0 < length terms → AnswersBy index terms m k score bytes hits visits → FindsBest index terms m k score bytes hits
+best-found index [] m k score bytes hits visits some answer tokens l is stood holds scores = absurd (omega (arith, some))
+best-found index (term ∷ terms) m k score bytes hits visits some answer tokens l is stood holds scores =
+    search-is tokens l is k m term terms hits visits
+    (subst (λ (f : ℕ → Option ℕ). IsAnswer k l.rules.bound f (groups_of l (term ∷ terms) m) hits visits) (fun_ext scores)
+    (subst (λ (gs : List Group). IsAnswer k l.rules.bound score gs hits visits)
+    (groups_by_bytes-is (page_pairs bytes) l (λ t. holds_all bytes (pages_of l.lists t) (is.in_order t) (holds t)) is.in_order (term ∷ terms) m)
+    (answer l is.documents.ascend stood)))

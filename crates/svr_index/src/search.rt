@@ -2,7 +2,7 @@ ghost use Rattle.std.specs.Prelude.{◌≡◌, ◌<◌, ◌≤◌, ◌++◌, ℕ
 ghost use Rattle.std.specs.Option.{ForSome};
 ghost use Rattle.svr_iter.specs.Reader.{KeepsReader};
 ghost use Rattle.svr_num.specs.declared.mode.Mode.TheVariants as mode;
-ghost use Rattle.svr_index.specs.Search.{AnswersBy, AreWithinBounds};
+ghost use Rattle.svr_index.specs.Search.{AnswersBy, AreWithinBounds, FindsBest};
 ghost use Rattle.svr_index.specs.Layout.{AreListsOf, IsListOf};
 
 use crate::index::Index;
@@ -12,7 +12,7 @@ use svr_iter::{Live, ScanFault};
 use svr_listkey::ListKeys;
 use svr_long::LongCursor;
 use svr_match::{AllOf, AnyOf};
-use svr_num::Scores;
+use svr_num::{Mode, Scores};
 use svr_postpage::PageReader;
 use svr_short::ShortLists;
 use svr_tokens::Tokens;
@@ -114,5 +114,35 @@ impl Index {
         self.push_lists(alloc, terms, 0, terms.len(), &mut lists)?;
         let mut matches = AnyOf::new(alloc, lists);
         scan(alloc, k, &mut matches, reader, scores, &self.method)
+    }
+
+    /// Finds the best `k` documents that have all, or any, of the terms, in as few groups of the listing as suffice. It answers by the
+    /// bytes of the pages that the reader gives.
+    ///
+    /// Errors: `Page`, where a page could not be read, or stands there no more; `Memory`.
+    pub fn search<S: Scores, R: PageReader>(
+        &self,
+        alloc: Global,
+        terms: &Tokens,
+        mode: Mode,
+        k: u32,
+        scores: &S,
+        reader: &mut R,
+    ) -> Result<Answer, ScanFault>
+        requires some_terms { 0 < length terms.now }
+        requires some { 0 < k }
+        requires few { k ≤ 1000 }
+        requires ready { R.ready reader.old }
+        requires bounded { AreWithinBounds self.now (S.score_of scores.now) }
+        ensures answer { IfOk result (λ answer. ForSome (R.told reader.old) (λ bytes.
+            AnswersBy self.now terms.now mode k (S.score_of scores.now) bytes answer.hits answer.groups)) }
+        ensures best { IfOk result (λ answer. ForSome (R.told reader.old) (λ bytes.
+            FindsBest self.now terms.now mode k (S.score_of scores.now) bytes answer.hits)) }
+        ensures reader { KeepsReader R.told R.ready R.faults reader.old reader.new result }
+    {
+        match mode {
+            Mode::All => self.search_all(alloc, terms, k, scores, reader),
+            Mode::Any => self.search_any(alloc, terms, k, scores, reader),
+        }
     }
 }

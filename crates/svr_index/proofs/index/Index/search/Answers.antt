@@ -1,0 +1,27 @@
+use Rattle.std.proofs.Common.{sym, subst}
+use Rattle.std.proofs.lemmas.Result.{IfOk-weaker}
+use Rattle.svr_num.specs.declared.mode.Mode.{Mode}
+use Rattle.svr_num.specs.declared.mode.Mode.TheVariants as mode
+use Rattle.svr_index.specs.Search.{FindsBest}
+use Rattle.svr_index.proofs.Searching.{best-found}
+use Rattle.svr_index.proofs.index.Index.search.Goals as goal
+
+pub returns-in-All-clause-best : goal.returns-in-All-clause-best
+returns-in-All-clause-best g c =
+    IfOk-weaker c.search_all.result _ _
+    (λ answer is bytes at.
+    subst (λ (m : Mode). FindsBest c.args.self.now c.args.terms.now m c.args.k (g.S.Scores.score_of c.args.scores.now) bytes answer.hits)
+    (sym c.in-All.is)
+    (best-found c.args.self.now c.args.terms.now mode.All c.args.k (g.S.Scores.score_of c.args.scores.now) bytes answer.hits answer.groups
+    c.requires.some_terms (is bytes at)))
+    c.search_all.ensures.answer
+
+pub returns-in-Any-clause-best : goal.returns-in-Any-clause-best
+returns-in-Any-clause-best g c =
+    IfOk-weaker c.search_any.result _ _
+    (λ answer is bytes at.
+    subst (λ (m : Mode). FindsBest c.args.self.now c.args.terms.now m c.args.k (g.S.Scores.score_of c.args.scores.now) bytes answer.hits)
+    (sym c.in-Any.is)
+    (best-found c.args.self.now c.args.terms.now mode.Any c.args.k (g.S.Scores.score_of c.args.scores.now) bytes answer.hits answer.groups
+    c.requires.some_terms (is bytes at)))
+    c.search_any.ensures.answer
