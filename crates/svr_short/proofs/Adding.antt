@@ -1,5 +1,6 @@
 -- Whether there is an Add under a number.
-use Rattle.std.proofs.Common.{◌≡◌, ℕ, ◌==◌, ◌&&◌, ◌||◌, Bool, true, false, cond, List, [], ◌∷◌, Option, Some, None, refl, sym, ap, subst, ◌∙◌}
+use Rattle.std.proofs.Common.{◌≡◌, ℕ, ◌==◌, ◌&&◌, ◌||◌, Bool, true, false, cond, List, [], ◌∷◌, Option, Some, None, refl, sym, ap}
+use Rattle.std.proofs.Common.{subst, ◌∙◌}
 use Rattle.std.specs.BTreeMap.{is_at}
 use Rattle.std.specs.List.{list_any}
 use Rattle.svr_iter.specs.Truths.{and_left, and_right, both_true, eq_from, eq_true, or_left, or_right}
@@ -55,5 +56,10 @@ any_add-some marks n some = from marks some
         → AddUnder marks n
     from [] e = absurd (cc)
     from (x ∷ es) e = by_bool _ ((x.0.term == n) && has_add (mark_at marks x.0))
-        (λ f. record { place = x.0; term = eq_from x.0.term n (and_left (x.0.term == n) (has_add (mark_at marks x.0)) f); there = and_right (x.0.term == n) (has_add (mark_at marks x.0)) f })
-        (λ f. from es (sym (ap (λ (b : Bool). b || list_any (λ (e : Place × Mark). (e.0.term == n) && has_add (mark_at marks e.0)) es) f) ∙ e))
+        (λ f. record {
+          place = x.0;
+          term = eq_from x.0.term n (and_left (x.0.term == n) (has_add (mark_at marks x.0)) f);
+          there = and_right (x.0.term == n) (has_add (mark_at marks x.0)) f;
+        })
+        (λ f. from es (sym (ap (λ (b : Bool). b || list_any (λ (e : Place × Mark). (e.0.term == n) && has_add (mark_at marks e.0)) es) f)
+        ∙ e))

@@ -1,5 +1,6 @@
 -- The marks at a key, as a range of the entries has them.
-use Rattle.std.proofs.Common.{◌≡◌, ℕ, ◌<◌, ◌≤◌, ◌^◌, ◌==◌, ◌&&◌, Bool, true, false, cond, List, [], ◌∷◌, ◌++◌, append-nil, map, filter, nat_lt, Option, Some, refl, sym, ap, subst, ◌∙◌, arith}
+use Rattle.std.proofs.Common.{◌≡◌, ℕ, ◌<◌, ◌≤◌, ◌^◌, Bool, true, false, cond, List, [], ◌∷◌, ◌++◌, append-nil, map, filter}
+use Rattle.std.proofs.Common.{nat_lt, Option, Some, refl, sym, ap, subst, ◌∙◌, arith}
 use Rattle.std.specs.BTreeMap.{is_at}
 use Rattle.std.specs.BTreeMap.Range.{entries_between, range_contains}
 use Rattle.std.specs.List.{AllByRecursion}
@@ -11,7 +12,7 @@ use Rattle.std.specs.declared.ops.Bound.TheVariants.{Included}
 use Rattle.std.specs.declared.cmp.Ordering.TheVariants.{Less, Equal, Greater}
 use Rattle.svr_iter.specs.Marks.{ids_of, marks_at}
 use Rattle.svr_iter.specs.Merging.{Above, all-with_id}
-use Rattle.svr_iter.specs.Truths.{and_left, and_right, eq_from, eq_less, eq_more, eq_true, lt_true}
+use Rattle.svr_iter.specs.Truths.{eq_less, eq_more, eq_true, lt_true}
 use Rattle.svr_iter.specs.declared.marks.Mark.{Mark}
 use Rattle.svr_iter.specs.declared.marks.Marked.{Marked}
 use Rattle.svr_short.specs.Laws.{ids-with_mark}
@@ -19,7 +20,7 @@ use Rattle.svr_short.specs.Short.{is_under, mark_at, marks_under, place_cmp, und
 use Rattle.svr_short.specs.declared.place.Place.{Place}
 use Rattle.svr_short.proofs.Keeping.{at_self}
 use Rattle.svr_short.proofs.Marking.{Entry, marked, marks_at-under}
-use Rattle.svr_short.proofs.Places.{by_cmp, place_at}
+use Rattle.svr_short.proofs.Places.{by_cmp, place_at, under_from, under_place}
 
 -- what holds of each place with a mark holds of each entry's
 pub all_places : (P : Place → Type 0) (es : List Entry) → ((p : Place) → IsSome (mark_at es p) → P p) → AllByRecursion P (keys_of es)
@@ -63,9 +64,8 @@ passes-under n key top p fit le =
 -- ids behind one in the places' order are above it
 above_less : (n key id : ℕ) (p : Place) → is_under n key p ≡ true → place_cmp (place_at n key id) p ≡ Less → id < p.id
 above_less n key id p under less =
-    let rest = and_right (p.term == n) ((p.key == key) && nat_lt p.id (2 ^ 63)) under in
-    let term : p.term ≡ n = eq_from p.term n (and_left (p.term == n) ((p.key == key) && nat_lt p.id (2 ^ 63)) under) in
-    let key_is : p.key ≡ key = eq_from p.key key (and_left (p.key == key) (nat_lt p.id (2 ^ 63)) rest) in
+    let term : p.term ≡ n = (under_from n key p under).term in
+    let key_is : p.key ≡ key = (under_from n key p under).key_is in
     by_cmp n p.term (id < p.id) (λ lt e. absurd (omega arith)) (λ s e. by_cmp key p.key (id < p.id) (λ lt f. absurd (omega arith))
     (λ t f. by_cmp id p.id (id < p.id) (λ lt g. lt) (λ u g. absurd (no e f g less)) (λ lt g. absurd (not_less e f g less)))
     (λ lt f. absurd (omega arith))) (λ lt e. absurd (omega arith))
@@ -98,17 +98,15 @@ pub range-under : (n key top : ℕ) (es : List Entry) → IsStrictlySortedBy pla
 unfolding IsStrictlySortedBy
 range-under n key top [] sorted fit le = refl
 range-under n key top (e ∷ es) sorted fit le =
-    ap (λ (b : Bool). map marked (cond b (e ∷ filter (λ (x : Entry). passes n key top x.0) es) (filter (λ (x : Entry). passes n key top x.0) es)))
-    (passes-under n key top e.0 fit.0 le) ∙ one (is_under n key e.0) refl (range-under n key top es sorted.1 fit.1 le)
+    ap (λ (b : Bool). map marked (cond b (e ∷ filter (λ (x : Entry). passes n key top x.0) es)
+    (filter (λ (x : Entry). passes n key top x.0) es))) (passes-under n key top e.0 fit.0 le)
+    ∙ one (is_under n key e.0) refl (range-under n key top es sorted.1 fit.1 le)
   where
     one : (b : Bool) → is_under n key e.0 ≡ b → map marked (filter (λ (x : Entry). passes n key top x.0) es) ≡ marks_under n key es
         → map marked (cond b (e ∷ filter (λ (x : Entry). passes n key top x.0) es) (filter (λ (x : Entry). passes n key top x.0) es))
         ≡ cond b (with_mark (marked e) (marks_under n key es)) (marks_under n key es)
     one true is rest =
-        let more = and_right (e.0.term == n) ((e.0.key == key) && nat_lt e.0.id (2 ^ 63)) is in
-        let term : e.0.term ≡ n = eq_from e.0.term n (and_left (e.0.term == n) ((e.0.key == key) && nat_lt e.0.id (2 ^ 63)) is) in
-        let key_is : e.0.key ≡ key = eq_from e.0.key key (and_left (e.0.key == key) (nat_lt e.0.id (2 ^ 63)) more) in
-        let here : e.0 ≡ place_at n key e.0.id = ap (λ (x : ℕ). place_at x e.0.key e.0.id) term ∙ ap (λ (x : ℕ). place_at n x e.0.id) key_is in
+        let here : e.0 ≡ place_at n key e.0.id = under_place n key e.0 (under_from n key e.0 is) in
         ap (λ (ms : List Marked). marked e ∷ ms) rest ∙ sym (with_mark-first (marked e) (marks_under n key es)
         (all_above n key e.0.id es (subst (λ (q : Place). AllByRecursion (λ p. place_cmp q p ≡ Less) (keys_of es)) here sorted.0)))
     one false is rest = rest
@@ -122,9 +120,8 @@ none_beyond n key (e ∷ es) fit beyond = one (is_under n key e.0) refl (none_be
     one : (b : Bool) → is_under n key e.0 ≡ b → marks_under n key es ≡ []
         → cond b (with_mark (marked e) (marks_under n key es)) (marks_under n key es) ≡ []
     one true is rest =
-        let more = and_right (e.0.term == n) ((e.0.key == key) && nat_lt e.0.id (2 ^ 63)) is in
-        let key_is : e.0.key ≡ key = eq_from e.0.key key (and_left (e.0.key == key) (nat_lt e.0.id (2 ^ 63)) more) in
-        let low : nat_lt key (2 ^ 48) ≡ true = lt_true key (2 ^ 48) (subst (λ (x : ℕ). x < 2 ^ 48) key_is fit.0) in
+        let low : nat_lt key (2 ^ 48) ≡ true =
+        lt_true key (2 ^ 48) (subst (λ (x : ℕ). x < 2 ^ 48) (under_from n key e.0 is).key_is fit.0) in
         absurd (cc)
     one false is rest = rest
 

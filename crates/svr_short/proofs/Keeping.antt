@@ -1,5 +1,6 @@
 -- What a change of one place keeps.
-use Rattle.std.proofs.Common.{◌≡◌, ℕ, ◌+◌, ◌<◌, ◌^◌, ◌==◌, Bool, true, false, cond, List, Option, Some, None, refl, sym, ap, subst, ◌∙◌, arith}
+use Rattle.std.proofs.Common.{◌≡◌, ℕ, ◌+◌, ◌<◌, ◌^◌, ◌==◌, Bool, true, false, cond, List, Option, Some, None, refl, sym, ap, subst}
+use Rattle.std.proofs.Common.{◌∙◌, arith}
 use Rattle.std.specs.BTreeMap.{is_at}
 use Rattle.std.specs.Cmp.Lexicographic.{slice_cmp}
 use Rattle.std.specs.Option.{IsSome}
@@ -227,7 +228,8 @@ holding-undone old mid new p keep undone =
 pub others-set : (old new : Lists) (p : Place) (w : Option Mark) → new.numbers ≡ old.numbers
     → SetsMark (mark_at old.marks) (mark_at new.marks) p w → KeepsOthers old new p.id
 others-set old new p w numbers sets = λ term key other differ.
-    ap (λ (ns : List (List ℕ × ℕ)). mark_by new.marks (number_of ns term) key other) numbers ∙ by (number_of old.numbers term) key other differ
+    ap (λ (ns : List (List ℕ × ℕ)). mark_by new.marks (number_of ns term) key other) numbers
+    ∙ by (number_of old.numbers term) key other differ
   where
     by : (o : Option ℕ) (key other : ℕ) → (p.id == other) ≡ false → mark_by new.marks o key other ≡ mark_by old.marks o key other
     by None key other differ = refl

@@ -1,16 +1,18 @@
 -- What the marks of a term, key by key, have of one document.
-use Rattle.std.proofs.Common.{◌≡◌, ℕ, ◌^◌, ◌==◌, ◌&&◌, ◌||◌, Bool, true, false, cond, List, [], ◌∷◌, map, filter, nat_lt, Option, Some, None, refl, sym, ap, subst, ◌∙◌}
+use Rattle.std.proofs.Common.{◌≡◌, ℕ, ◌^◌, ◌==◌, ◌&&◌, ◌||◌, Bool, true, false, cond, List, [], ◌∷◌, map, filter, nat_lt, Option, Some}
+use Rattle.std.proofs.Common.{None, refl, sym, ap, subst, ◌∙◌}
 use Rattle.std.specs.BTreeMap.{is_at}
 use Rattle.svr_listing.specs.Joined.{is_in}
 use Rattle.svr_listing.proofs.Answering.{any-descending}
 use Rattle.svr_iter.specs.Marks.{MarksAt, mark_of, marks_at}
-use Rattle.svr_iter.specs.Truths.{and_left, and_right, both_true, eq_from, eq_true}
+use Rattle.svr_iter.specs.Truths.{and_right, both_true, eq_from, eq_true}
 use Rattle.svr_iter.specs.declared.marks.Mark.{Mark}
 use Rattle.svr_iter.specs.declared.marks.Marked.{Marked}
-use Rattle.svr_short.specs.Short.{Lists, is_under, keys_under, mark_at, mark_by, mark_in, marks_of, marks_under, number_of, place_cmp, under_number, with_mark}
+use Rattle.svr_short.specs.Short.{Lists, is_under, keys_under, mark_at, mark_by, mark_in, marks_of, marks_under, number_of, place_cmp}
+use Rattle.svr_short.specs.Short.{under_number, with_mark}
 use Rattle.svr_short.specs.declared.place.Place.{Place}
 use Rattle.svr_short.proofs.Keeping.{at_self, by_bool, same_place}
-use Rattle.svr_short.proofs.Places.{place_at}
+use Rattle.svr_short.proofs.Places.{place_at, under_from, under_place, under_to}
 
 abbrev pub Entry : Type 0
 Entry = Place × Mark
@@ -53,7 +55,8 @@ one_more n key id e es rest = by_bool (HasMark (is_under n key e.0)) (is_under n
         ≡ cond (nat_lt id (2 ^ 63)) (cond (is_at (place_cmp (place_at n key id)) e.0) (Some e.1) (mark_at es (place_at n key id))) None
 
     not_here : (is_at (place_cmp (place_at n key id)) e.0 ≡ true → ⊥) → is_at (place_cmp (place_at n key id)) e.0 ≡ false
-    not_here never = by_bool (is_at (place_cmp (place_at n key id)) e.0 ≡ false) (is_at (place_cmp (place_at n key id)) e.0) (λ f. absurd (never f)) (λ f. f)
+    not_here never = by_bool (is_at (place_cmp (place_at n key id)) e.0 ≡ false) (is_at (place_cmp (place_at n key id)) e.0)
+        (λ f. absurd (never f)) (λ f. f)
 
     passed : (b : Bool) → (b ≡ true → is_at (place_cmp (place_at n key id)) e.0 ≡ false)
         → cond b (mark_at es (place_at n key id)) None
@@ -61,18 +64,17 @@ one_more n key id e es rest = by_bool (HasMark (is_under n key e.0)) (is_under n
     passed true f = sym (ap (λ (b : Bool). cond b (Some e.1) (mark_at es (place_at n key id))) (f refl))
     passed false f = refl
 
-    found : (f : is_under n key e.0 ≡ true) → (e.0.id == id) ≡ true
-        → Some e.1 ≡ cond (nat_lt id (2 ^ 63)) (cond (is_at (place_cmp (place_at n key id)) e.0) (Some e.1) (mark_at es (place_at n key id))) None
+    found : is_under n key e.0 ≡ true → (e.0.id == id) ≡ true → Some e.1
+        ≡ cond (nat_lt id (2 ^ 63)) (cond (is_at (place_cmp (place_at n key id)) e.0) (Some e.1) (mark_at es (place_at n key id))) None
     found f g =
-        let rest_of = and_right (e.0.term == n) ((e.0.key == key) && nat_lt e.0.id (2 ^ 63)) f in
-        let same_id : e.0.id ≡ id = eq_from e.0.id id g in
-        let same : e.0 ≡ place_at n key id = ap (λ (x : ℕ). place_at x e.0.key e.0.id) (eq_from e.0.term n (and_left (e.0.term == n) ((e.0.key == key) && nat_lt e.0.id (2 ^ 63)) f))
-        ∙ ap (λ (x : ℕ). place_at n x e.0.id) (eq_from e.0.key key (and_left (e.0.key == key) (nat_lt e.0.id (2 ^ 63)) rest_of))
-        ∙ ap (λ (x : ℕ). place_at n key x) same_id in
-        let fit : nat_lt id (2 ^ 63) ≡ true = subst (λ (x : ℕ). nat_lt x (2 ^ 63) ≡ true) same_id (and_right (e.0.key == key) (nat_lt e.0.id (2 ^ 63)) rest_of) in
-        let at : is_at (place_cmp (place_at n key id)) e.0 ≡ true = subst (λ (p : Place). is_at (place_cmp p) e.0 ≡ true) same (at_self e.0) in
-        sym (ap (λ (b : Bool). cond b (cond (is_at (place_cmp (place_at n key id)) e.0) (Some e.1) (mark_at es (place_at n key id))) None) fit
-        ∙ ap (λ (b : Bool). cond b (Some e.1) (mark_at es (place_at n key id))) at)
+        let is = under_from n key e.0 f in
+        let same : e.0.id ≡ id = eq_from e.0.id id g in
+        let here : e.0 ≡ place_at n key id = under_place n key e.0 is ∙ ap (λ (x : ℕ). place_at n key x) same in
+        let fit : nat_lt id (2 ^ 63) ≡ true = subst (λ (x : ℕ). nat_lt x (2 ^ 63) ≡ true) same is.fits in
+        let at : is_at (place_cmp (place_at n key id)) e.0 ≡ true =
+        subst (λ (p : Place). is_at (place_cmp p) e.0 ≡ true) here (at_self e.0) in
+        sym (ap (λ (b : Bool). cond b (cond (is_at (place_cmp (place_at n key id)) e.0) (Some e.1) (mark_at es (place_at n key id))) None)
+        fit ∙ ap (λ (b : Bool). cond b (Some e.1) (mark_at es (place_at n key id))) at)
 
     here : is_under n key e.0 ≡ true → HasMark (is_under n key e.0)
     here f = subst HasMark (sym f) (mark_of-with_mark id (marked e) (marks_under n key es)
@@ -93,7 +95,7 @@ one_more n key id e es rest = by_bool (HasMark (is_under n key e.0)) (is_under n
         under : nat_lt id (2 ^ 63) ≡ true → place_at n key id ≡ e.0 → ⊥
         under fit same =
             let yes = subst (λ (p : Place). is_under n key p ≡ true) same
-            (both_true (n == n) ((key == key) && nat_lt id (2 ^ 63)) (eq_true n n refl) (both_true (key == key) (nat_lt id (2 ^ 63)) (eq_true key key refl) fit)) in
+            (under_to n key (place_at n key id) (record { term = refl; key_is = refl; fits = fit })) in
             absurd (cc)
 
 -- the mark of a document among those under a number at a key
@@ -117,7 +119,8 @@ marks_at-keys n key es [] = refl
 marks_at-keys n key es (k ∷ ks) = one (k == key) refl (marks_at-keys n key es ks)
   where
     one : (b : Bool) → (k == key) ≡ b → marks_at key (map {B = MarksAt} (under n es) ks) ≡ cond (is_in key ks) (marks_under n key es) []
-        → cond b (marks_under n k es) (marks_at key (map {B = MarksAt} (under n es) ks)) ≡ cond (b || is_in key ks) (marks_under n key es) []
+        → cond b (marks_under n k es) (marks_at key (map {B = MarksAt} (under n es) ks))
+        ≡ cond (b || is_in key ks) (marks_under n key es) []
     one true e rest = ap (λ (x : ℕ). marks_under n x es) (eq_from k key e)
     one false e rest = rest
 
@@ -140,8 +143,10 @@ none_under n key (e ∷ es) fit none = by_bool (IsNone (is_under n key e.0)) (is
 
     split : (b : Bool) → is_in key (map (λ (x : Entry). x.0.key) (cond b (e ∷ filter (is_key n) es) (filter (is_key n) es))) ≡ false
         → (is_in key (map (λ (x : Entry). x.0.key) (filter (is_key n) es)) ≡ false) × (b ≡ true → (e.0.key == key) ≡ false)
-    split true f = ((neither (e.0.key == key) (is_in key (map (λ (x : Entry). x.0.key) (filter (is_key n) es))) f).1,
-      λ _. (neither (e.0.key == key) (is_in key (map (λ (x : Entry). x.0.key) (filter (is_key n) es))) f).0)
+    split true f = (
+      (neither (e.0.key == key) (is_in key (map (λ (x : Entry). x.0.key) (filter (is_key n) es))) f).1,
+      λ _. (neither (e.0.key == key) (is_in key (map (λ (x : Entry). x.0.key) (filter (is_key n) es))) f).0,
+    )
     split false f = (f, λ g. absurd (cc))
 
     rest : is_in key (map (λ (x : Entry). x.0.key) (filter (is_key n) es)) ≡ false
@@ -149,9 +154,10 @@ none_under n key (e ∷ es) fit none = by_bool (IsNone (is_under n key e.0)) (is
 
     there : is_under n key e.0 ≡ true → ⊥
     there f =
-        let term = and_left (e.0.term == n) ((e.0.key == key) && nat_lt e.0.id (2 ^ 63)) f in
-        let key_is = and_left (e.0.key == key) (nat_lt e.0.id (2 ^ 63)) (and_right (e.0.term == n) ((e.0.key == key) && nat_lt e.0.id (2 ^ 63)) f) in
-        let low : nat_lt e.0.key (2 ^ 48) ≡ true = subst (λ (x : ℕ). nat_lt x (2 ^ 48) ≡ true) (sym (eq_from e.0.key key key_is)) fit in
+        let is = under_from n key e.0 f in
+        let low : nat_lt e.0.key (2 ^ 48) ≡ true = subst (λ (x : ℕ). nat_lt x (2 ^ 48) ≡ true) (sym is.key_is) fit in
+        let term = eq_true e.0.term n is.term in
+        let key_is = eq_true e.0.key key is.key_is in
         let no = (split (is_key n e) none).1 (both_true (e.0.term == n) (nat_lt e.0.key (2 ^ 48)) term low) in
         absurd (cc)
 
@@ -193,7 +199,8 @@ pub mark_of-marks_of : (lists : Lists) (term : List ℕ) (key id : ℕ)
     → mark_of id (marks_at key (marks_of lists term)) ≡ mark_in lists term key id
 mark_of-marks_of lists term key id = by_number (number_of lists.numbers term)
   where
-    both : (a b : Bool) (ms : List Marked) (o : Option Mark) → mark_of id ms ≡ cond b o None → mark_of id (cond a ms []) ≡ cond (a && b) o None
+    both : (a b : Bool) (ms : List Marked) (o : Option Mark) → mark_of id ms ≡ cond b o None
+        → mark_of id (cond a ms []) ≡ cond (a && b) o None
     both true b ms o e = e
     both false b ms o e = refl
 

@@ -1,5 +1,6 @@
 -- The greatest key with an Add, as the last place of Adds between two others has it.
-use Rattle.std.proofs.Common.{◌≡◌, ℕ, ◌<◌, ◌≤◌, ◌^◌, ◌==◌, ◌&&◌, ◌||◌, Bool, true, false, cond, IsTrue, List, [], ◌∷◌, filter, map, nat_lt, Option, Some, None, option_map, refl, sym, ap, subst, ◌∙◌, arith}
+use Rattle.std.proofs.Common.{◌≡◌, ℕ, ◌<◌, ◌≤◌, ◌^◌, ◌==◌, ◌&&◌, ◌||◌, Bool, true, false, cond, IsTrue, List, [], ◌∷◌, filter, map}
+use Rattle.std.proofs.Common.{nat_lt, Option, Some, None, option_map, refl, sym, ap, subst, ◌∙◌, arith}
 use Rattle.std.specs.BTreeMap.Range.{IsInRange}
 use Rattle.std.specs.BTreeSet.{BTreeSet, IsKeyRangeOf, contains}
 use Rattle.std.specs.Map.Iter.{TakesLast}
@@ -94,8 +95,10 @@ less_key p n b term e = by_cmp p.term n (p.key < b) (λ lt f. absurd (omega arit
 
 pub below-some : (n b : ℕ) → IsBelow n (Some b) (Included (place_at n 0 0)) (Excluded (place_at n b 0))
 below-some n b = record {
-  within = λ q term key id is. (le_place (place_at n 0 0) q (sym term) (omega arith) (λ e. omega arith),
-    key_less q (place_at n b 0) term (lt_from q.key b is));
+  within = λ q term key id is. (
+    le_place (place_at n 0 0) q (sym term) (omega arith) (λ e. omega arith),
+    key_less q (place_at n b 0) term (lt_from q.key b is),
+  );
   term = λ q range. same q range;
   key = λ q range. lt_true q.key b (less_key q n b (same q range) range.1);
 }
@@ -124,8 +127,11 @@ pub record AddAt (n : ℕ) (es : List Entry) (key : ℕ) : Type 0 where
 from_wanted : (n key : ℕ) (es : List Entry) → iter.has_add (marks_under n key es) ≡ true → AddAt n es key
 from_wanted n key es e =
     let some = some_add (marks_under n key es) (are_under n key es).0 e in
-    record { id = some.0; there = either (nat_lt some.0 (2 ^ 63)) (mark_at es (place_at n key some.0))
-    (sym (mark_of-marks_under n key some.0 es) ∙ some.1) }
+    record {
+      id = some.0;
+      there = either (nat_lt some.0 (2 ^ 63)) (mark_at es (place_at n key some.0))
+          (sym (mark_of-marks_under n key some.0 es) ∙ some.1);
+    }
   where
     either : (b : Bool) (o : Option Mark) → cond b o None ≡ Some mark.Add → has_add o ≡ true
     either true o f = ap has_add f
@@ -154,7 +160,8 @@ last_key shows count n below low high es adds held r None t are bounds range ste
     sym (next-none n below es (keys_under n es) (λ k. not_wanted count n below low high es adds held k are bounds
     (λ q same inside e. let f = range.5 step.0 q inside in absurd (cc))))
 last_key shows count n below low high es adds held r (Some x) t are bounds range step =
-    sym (next-some n below es (keys_under n es) (shows x).key (descending-down (map (λ (e : Entry). e.0.key) (filter (is_key n) es))) there is most)
+    sym (next-some n below es (keys_under n es) (shows x).key
+    (descending-down (map (λ (e : Entry). e.0.key) (filter (is_key n) es))) there is most)
   where
     inside : IsInRange place_cmp low high (shows x) × IsTrue (contains place_cmp adds (shows x))
     inside = range.3 (shows x) t step

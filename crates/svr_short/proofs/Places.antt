@@ -1,5 +1,6 @@
 -- Places in their order, and those between two of them.
-use Rattle.std.proofs.Common.{◌≡◌, ℕ, ◌<◌, ◌≤◌, ◌^◌, IsTrue, false, List, Option, Some, None, refl, sym, ap, subst, ◌∙◌, arith}
+use Rattle.std.proofs.Common.{◌≡◌, ℕ, ◌<◌, ◌≤◌, ◌^◌, ◌==◌, ◌&&◌, true, false, nat_lt, List, Option, Some, None, refl, sym, ap, subst}
+use Rattle.std.proofs.Common.{◌∙◌, arith}
 use Rattle.std.specs.BTreeMap.Range.{IsInRange}
 use Rattle.std.specs.Cmp.{nat_cmp_is}
 use Rattle.std.specs.Ordering.{is_gt, nat_cmp, ordering_then}
@@ -14,8 +15,8 @@ use Rattle.svr_iter.specs.declared.marks.Mark.{Mark}
 use Rattle.svr_short.specs.Layout.{AreMarked, any_add, has_add}
 use Rattle.svr_short.specs.declared.place.Holding.{Holding}
 use Rattle.svr_short.proofs.Adding.{any_add-none, any_add-there}
-use Rattle.svr_iter.specs.Truths.{by_order}
-use Rattle.svr_short.specs.Short.{mark_at, place_cmp}
+use Rattle.svr_iter.specs.Truths.{and_left, and_right, both_true, by_order, eq_from, eq_true}
+use Rattle.svr_short.specs.Short.{is_under, mark_at, place_cmp}
 use Rattle.svr_short.specs.declared.place.Place.{Place}
 
 -- how two numbers compare
@@ -51,6 +52,28 @@ le_term p q e = by_cmp p.term q.term (p.term ≤ q.term) (λ lt f. omega arith) 
     back Less b f e = absurd (cc)
     back Equal b f e = absurd (cc)
     back Greater b f e = absurd (cc)
+
+-- what it is to stand under a number at a key
+pub record IsUnder (n key : ℕ) (p : Place) : Type 0 where
+  pub term : p.term ≡ n
+  pub key_is : p.key ≡ key
+  pub fits : nat_lt p.id (2 ^ 63) ≡ true
+
+pub under_from : (n key : ℕ) (p : Place) → is_under n key p ≡ true → IsUnder n key p
+under_from n key p e =
+    let rest = and_right (p.term == n) ((p.key == key) && nat_lt p.id (2 ^ 63)) e in
+    record {
+      term = eq_from p.term n (and_left (p.term == n) ((p.key == key) && nat_lt p.id (2 ^ 63)) e);
+      key_is = eq_from p.key key (and_left (p.key == key) (nat_lt p.id (2 ^ 63)) rest);
+      fits = and_right (p.key == key) (nat_lt p.id (2 ^ 63)) rest;
+    }
+
+pub under_to : (n key : ℕ) (p : Place) → IsUnder n key p → is_under n key p ≡ true
+under_to n key p is = both_true (p.term == n) ((p.key == key) && nat_lt p.id (2 ^ 63)) (eq_true p.term n is.term)
+    (both_true (p.key == key) (nat_lt p.id (2 ^ 63)) (eq_true p.key key is.key_is) is.fits)
+
+pub under_place : (n key : ℕ) (p : Place) → IsUnder n key p → p ≡ place_at n key p.id
+under_place n key p is = ap (λ (x : ℕ). place_at x p.key p.id) is.term ∙ ap (λ (x : ℕ). place_at n x p.id) is.key_is
 
 -- ---- between two places
 
@@ -90,8 +113,9 @@ pub has_add-first : {A : Type 0} (shows : A → Place) (count n top : ℕ) (mark
 has_add-first shows count n top marks adds held r None t are le range step =
     sym (any_add-none marks n (λ p term. no_add count n top marks adds held p are le (range.5 step.0) term))
 has_add-first shows count n top marks adds held r (Some x) t are le range step =
-    let first : IsInRange place_cmp (Included (place_at n 0 0)) (Included (place_at n top top)) (shows x) × IsTrue (contains place_cmp adds (shows x)) =
-    subst (λ (ps : List Place). IfSome (slice_get ps 0) (IsKeyInRange place_cmp (Included (place_at n 0 0)) (Included (place_at n top top)) adds)) step range.1 in
+    let first : IsKeyInRange place_cmp (Included (place_at n 0 0)) (Included (place_at n top top)) adds (shows x) =
+    subst (λ (ps : List Place). IfSome (slice_get ps 0) (IsKeyInRange place_cmp (Included (place_at n 0 0))
+    (Included (place_at n top top)) adds)) step range.1 in
     sym (any_add-there marks (shows x) n (of_term n 0 0 top top (shows x) first.0) (sym (are.is_added (shows x)) ∙ first.1))
 
 -- what lies between two places that are known by their equations

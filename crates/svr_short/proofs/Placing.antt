@@ -1,5 +1,6 @@
 -- What a run over several terms makes of a document's marks.
-use Rattle.std.proofs.Common.{◌≡◌, ℕ, zero, suc, ◌+◌, ◌<◌, ◌==◌, ◌&&◌, ◌||◌, Bool, true, false, not, cond, List, [], ◌∷◌, length, take, Option, Some, Less, refl, sym, ap, subst, ◌∙◌}
+use Rattle.std.proofs.Common.{◌≡◌, ℕ, zero, suc, ◌+◌, ◌<◌, ◌==◌, ◌&&◌, ◌||◌, Bool, true, false, not, cond, List, [], ◌∷◌, length, take}
+use Rattle.std.proofs.Common.{Option, Some, Less, refl, sym, ap, subst, ◌∙◌}
 use Rattle.std.specs.Bool.{one_answer}
 use Rattle.std.specs.Cmp.Lexicographic.{slice_cmp}
 use Rattle.std.specs.List.{AllByRecursion, slice_get}
@@ -11,8 +12,8 @@ use Rattle.std.proofs.lemmas.Map.Text.{is_eq-slice_cmp}
 use Rattle.std.proofs.lemmas.Option.{get_or_from_slice_get}
 use Rattle.std.proofs.lemmas.Slice.Eq.{bytes_eq-Decides}
 use Rattle.svr_iter.specs.declared.marks.Mark.{Mark}
-use Rattle.svr_short.specs.Short.{HasMarks, KeepsOthers, Lists, lacks, mark_in, mark_turned, turned_at}
-use Rattle.svr_short.specs.Layout.{IsTurned}
+use Rattle.svr_short.specs.Layout.{IsTurned, mark_turned, turned_at}
+use Rattle.svr_short.specs.Short.{HasMarks, KeepsOthers, Lists, lacks, mark_in}
 use Rattle.svr_tokens.specs.Tokens.{has_term}
 
 pub IsTurned-same : (first now : Lists) (id key : ℕ) (mark : Mark) (some others : List ℕ → Bool) → ((t : List ℕ) → some t ≡ others t)

@@ -1,5 +1,6 @@
 -- The first term behind another that has an Add.
-use Rattle.std.proofs.Common.{◌≡◌, ℕ, ◌&&◌, Bool, true, false, cond, List, [], ◌∷◌, find, filter, Option, Some, None, option_map, refl, sym, ap, subst, ◌∙◌}
+use Rattle.std.proofs.Common.{◌≡◌, ℕ, ◌&&◌, Bool, true, false, cond, List, [], ◌∷◌, find, filter, Option, Some, None, option_map, refl}
+use Rattle.std.proofs.Common.{sym, ap, subst, ◌∙◌}
 use Rattle.std.specs.BTreeMap.{is_at}
 use Rattle.std.specs.Cmp.Lexicographic.{slice_cmp, nat_list_cmp_total}
 use Rattle.std.specs.List.{AllByRecursion}
@@ -92,7 +93,8 @@ module _ (wanted : Entry → Bool) where
   first [] t n sorted e is = absurd (cc)
   first (x ∷ ns) t n sorted e is = by_bool (IsNotAfter t (find wanted (x ∷ ns))) (is_at (cmp t) x.0)
       (λ f. let number : x.1 ≡ n = some_same x.1 n (sym (ap (λ (b : Bool). cond b (Some x.1) (number_of ns t)) f) ∙ e) in
-      let here : wanted x ≡ true = ap (λ (m : ℕ). wanted (x.0, m)) number ∙ ap (λ (s : List ℕ). wanted (s, n)) (sym (same_term t x.0 f)) ∙ is in
+      let here : wanted x ≡ true = ap (λ (m : ℕ). wanted (x.0, m)) number
+      ∙ ap (λ (s : List ℕ). wanted (s, n)) (sym (same_term t x.0 f)) ∙ is in
       subst (λ (b : Bool). IsNotAfter t (cond b (Some x) (find wanted ns))) (sym here) (refl, not_less (cmp t x.0) f))
       (λ f. let there : number_of ns t ≡ Some n = sym (ap (λ (b : Bool). cond b (Some x.1) (number_of ns t)) f) ∙ e in
       let less : cmp x.0 t ≡ Less = all_at (λ (s : List ℕ). cmp x.0 s ≡ Less) ns t n sorted.0 there in
@@ -145,7 +147,8 @@ to_term v t n known given some =
           ∙ is_add (mark_at v.marks under.place) under.there;
     }
 
-from_term : (v : Lists) (t : List ℕ) (C : Type 0) → HasAdd v t → ((n : ℕ) → number_of v.numbers t ≡ Some n → any_add v.marks n ≡ true → C) → C
+from_term : (v : Lists) (t : List ℕ) (C : Type 0) → HasAdd v t
+    → ((n : ℕ) → number_of v.numbers t ≡ Some n → any_add v.marks n ≡ true → C) → C
 from_term v t C has then_add = by_number (number_of v.numbers t) refl has.there
   where
     either : (b : Bool) (o : Option Mark) → cond b o None ≡ Some mark.Add → has_add o ≡ true

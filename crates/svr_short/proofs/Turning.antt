@@ -7,8 +7,8 @@ use Rattle.std.proofs.lemmas.Slice.Eq.{bytes_eq-Decides}
 use Rattle.svr_iter.specs.Truths.{and_left, and_right, both_true, eq_from, eq_true, lt_true}
 use Rattle.svr_iter.specs.declared.marks.Mark.{Mark}
 use Rattle.svr_iter.specs.declared.marks.Mark.TheVariants as mark
-use Rattle.svr_short.specs.Layout.{IsAlone, SetsMark}
-use Rattle.svr_short.specs.Short.{HasMarks, Lists, StandsAt, fits, mark_at, mark_by, mark_in, mark_turned, number_of, place_cmp, turned_at}
+use Rattle.svr_short.specs.Layout.{AreMarked, AreNumbers, IsAlone, SetsMark, mark_turned, turned_at}
+use Rattle.svr_short.specs.Short.{HasMarks, Lists, StandsAt, fits, mark_at, mark_by, mark_in, number_of, place_cmp}
 use Rattle.svr_short.specs.declared.place.Holding.{Holding}
 use Rattle.svr_short.specs.declared.place.Place.{Place}
 use Rattle.svr_short.proofs.Keeping.{at_self, by_bool, same_place}
@@ -18,6 +18,12 @@ pub record Known (v : Lists) : Type 0 where
   pub apart : (s t : List ℕ) (n : ℕ) → number_of v.numbers s ≡ Some n → number_of v.numbers t ≡ Some n → s ≡ t
   pub key_fits : (p : Place) → IsSome (mark_at v.marks p) → p.key < 2 ^ 48
   pub id_fits : (p : Place) → IsSome (mark_at v.marks p) → p.id < 2 ^ 63
+
+pub known_of : {count : ℕ} {adds : Place → Bool} {held : Holding → Option ℕ} (numbers : List (List ℕ × ℕ)) (marks : List (Place × Mark))
+    (v : Lists) → record { numbers = numbers; marks = marks } ≡ v → AreNumbers count (number_of numbers)
+    → AreMarked count (mark_at marks) adds held → Known v
+known_of numbers marks v view_is are marked =
+    subst Known view_is (record { apart = are.apart; key_fits = marked.key_fits; id_fits = marked.id_fits })
 
 -- the marks of all terms are as they were
 abbrev pub Stays : Lists → Lists → Type 0
@@ -68,7 +74,8 @@ turned old mid new term p mark w known given stays numbers sets is key_fits id_f
     here : (t : List ℕ) (at : ℕ) → ((p.key == at) && bytes_eq term t) ≡ true
         → mark_in new t at p.id ≡ turned_at p.key term mark (λ t at. mark_in old t at p.id) t at
     here t at e =
-        subst (λ (x : ℕ). mark_in new t x p.id ≡ mark_turned mark (mark_in old t x p.id)) (eq_from p.key at (and_left (p.key == at) (bytes_eq term t) e))
+        subst (λ (x : ℕ). mark_in new t x p.id ≡ mark_turned mark (mark_in old t x p.id))
+        (eq_from p.key at (and_left (p.key == at) (bytes_eq term t) e))
         (subst (λ (x : List ℕ). mark_in new x p.key p.id ≡ mark_turned mark (mark_in old x p.key p.id))
         ((bytes_eq-Decides term t).0 (and_right (p.key == at) (bytes_eq term t) e)) at_place)
         ∙ sym (ap (λ (b : Bool). cond b (mark_turned mark (mark_in old t at p.id)) (mark_in old t at p.id)) e)

@@ -1,5 +1,6 @@
 -- The marks of a term are in order, whatever the lists.
-use Rattle.std.proofs.Common.{◌≡◌, ℕ, ◌<◌, ◌^◌, ◌==◌, ◌&&◌, Bool, true, false, cond, List, [], ◌∷◌, map, filter, nat_lt, Option, Some, None, refl, ap}
+use Rattle.std.proofs.Common.{◌≡◌, ℕ, ◌<◌, ◌^◌, ◌==◌, ◌&&◌, Bool, true, false, cond, List, [], ◌∷◌, map, filter, nat_lt, Option, Some}
+use Rattle.std.proofs.Common.{None, refl, ap}
 use Rattle.std.specs.List.{AllByRecursion}
 use Rattle.svr_iter.specs.KeyLaws.{AreDescending, descending-all, descending-down}
 use Rattle.svr_iter.specs.Marks.{AreMarks, IsMarksAt, MarksAt, ids_of}
@@ -72,7 +73,8 @@ keys_back n es ks down = rw (back ks) down
 under_number-lawful : (es : List (Place × Mark)) (n : Option ℕ) → AreMarks (under_number es n)
 under_number-lawful es None = record { descend = tt; each = tt }
 under_number-lawful es (Some n) = record {
-  descend = keys_back n es (keys_under n es) (descending-down (map (λ (e : Place × Mark). e.0.key) (filter (λ e. (e.0.term == n) && nat_lt e.0.key (2 ^ 48)) es)));
+  descend = keys_back n es (keys_under n es)
+      (descending-down (map (λ (e : Place × Mark). e.0.key) (filter (λ e. (e.0.term == n) && nat_lt e.0.key (2 ^ 48)) es)));
   each = each_key n es (keys_under n es) (descending-all (λ key. key < 2 ^ 48)
       (map (λ (e : Place × Mark). e.0.key) (filter (λ e. (e.0.term == n) && nat_lt e.0.key (2 ^ 48)) es)) (keys_fit n es));
 }

@@ -3,17 +3,20 @@ use Rattle.std.specs.Prelude.{◌≡◌, ◌<◌, ◌^◌, ℕ, ◌==◌, ◌&&�
 use Rattle.std.specs.BTreeMap.{is_at}
 use Rattle.std.specs.List.{list_any}
 use Rattle.std.specs.Option.{IsSome}
+use Rattle.std.specs.Str.{bytes_eq}
 use Rattle.std.specs.Ordering.{nat_cmp, ordering_then}
 use Rattle.std.specs.declared.cmp.Ordering.{Ordering}
 use Rattle.svr_iter.specs.declared.marks.Mark.{Mark}
 use Rattle.svr_iter.specs.declared.marks.Mark.TheVariants as mark
-use Rattle.svr_short.specs.Short.{HasMarks, KeepsOthers, Lists, mark_at, mark_in, mark_turned, place_cmp}
+use Rattle.svr_short.specs.Short.{HasMarks, KeepsOthers, Lists, mark_added, mark_at, mark_in, mark_removed, place_cmp}
 use Rattle.svr_short.specs.declared.place.Holding.{Holding}
 use Rattle.svr_short.specs.declared.place.Place.{Place}
 
+-- holdings go by document, then by term
 abbrev pub holding_cmp : Holding → Holding → Ordering
 holding_cmp p q = ordering_then (nat_cmp p.id q.id) (nat_cmp p.term q.term)
 
+-- whether a mark is an Add
 abbrev pub has_add : Option Mark → Bool
 has_add None = false
 has_add (Some mark.Add) = true
@@ -23,10 +26,12 @@ has_add (Some mark.Rem) = false
 abbrev pub any_add : List (Place × Mark) → ℕ → Bool
 any_add marks n = list_any (λ e. (e.0.term == n) && has_add (mark_at marks e.0)) marks
 
+-- the key, where there is a mark
 abbrev pub key_of : Option Mark → ℕ → Option ℕ
 key_of None key = None
 key_of (Some mark) key = Some key
 
+-- that the document of a place has a mark under its term
 abbrev pub holding_of : Place → Holding
 holding_of p = record { id = p.id; term = p.term }
 
@@ -52,11 +57,22 @@ IsAlone marks p = (q : Place) → IsSome (marks q) → holding_of q ≡ holding_
 abbrev pub SetsMark : (old new : Place → Option Mark) → Place → Option Mark → Type 0
 SetsMark old new p mark = (q : Place) → new q ≡ (if is_at (place_cmp p) q then mark else old q)
 
+-- the same of the places of Adds
 abbrev pub SetsAdd : (old new : Place → Bool) → Place → Option Mark → Type 0
 SetsAdd old new p mark = (q : Place) → new q ≡ (if is_at (place_cmp p) q then has_add mark else old q)
 
+-- the same of what documents hold, by its key
 abbrev pub SetsHolding : (old new : Holding → Option ℕ) → Place → Option Mark → Type 0
 SetsHolding old new p mark = (h : Holding) → new h ≡ (if is_at (holding_cmp (holding_of p)) h then key_of mark p.key else old h)
+
+-- the mark of a document under a term after it has been given one, or the other one there has gone away
+abbrev pub mark_turned : Mark → Option Mark → Option Mark
+mark_turned mark.Add old = mark_added old
+mark_turned mark.Rem old = mark_removed old
+
+-- the marks of a document after it has been given a mark under one term, or the other one there has gone away
+abbrev pub turned_at : ℕ → List ℕ → Mark → (List ℕ → ℕ → Option Mark) → List ℕ → ℕ → Option Mark
+turned_at at of mark old term key = if (at == key) && bytes_eq of term then mark_turned mark (old term key) else old term key
 
 -- the marks of a document after it has been given a mark under each of some terms, or the other one there has gone away
 abbrev pub all_turned_at : ℕ → (List ℕ → Bool) → Mark → (List ℕ → ℕ → Option Mark) → List ℕ → ℕ → Option Mark

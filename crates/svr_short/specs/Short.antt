@@ -1,9 +1,9 @@
 -- Marks of documents under terms, by look-ups.
-use Rattle.std.specs.Prelude.{◌≡◌, ⊤, IfSome, IsSome, ◌^◌, ℕ, ◌==◌, ◌&&◌, Bool, false, List, [], ◌∷◌, map, filter, nat_lt, not, Option, Some, None, if◌then◌else◌}
+use Rattle.std.specs.Prelude.{◌≡◌, ⊤, IfSome, IsSome, ◌^◌, ℕ, ◌==◌, ◌&&◌, Bool, false, List, [], ◌∷◌, map, filter, nat_lt, not, Option}
+use Rattle.std.specs.Prelude.{Some, None, if◌then◌else◌}
 use Rattle.std.specs.BTreeMap.{is_at}
 use Rattle.std.specs.Cmp.Lexicographic.{slice_cmp}
 use Rattle.std.specs.Map.{lookup}
-use Rattle.std.specs.Str.{bytes_eq}
 use Rattle.std.specs.Ordering.{nat_cmp, ordering_then}
 use Rattle.std.specs.declared.cmp.Ordering.{Ordering}
 use Rattle.std.specs.declared.cmp.Ordering.TheVariants.{Less}
@@ -112,14 +112,6 @@ edited_at at added removed old term key =
 -- a document has marks at this key alone
 abbrev pub StandsAt : Lists → ℕ → ℕ → Type 0
 StandsAt lists id key = (term : List ℕ) (at : ℕ) → IsSome (mark_in lists term at id) → at ≡ key
-
-abbrev pub mark_turned : Mark → Option Mark → Option Mark
-mark_turned mark.Add old = mark_added old
-mark_turned mark.Rem old = mark_removed old
-
--- the marks of a document after it has been given a mark under one term, or the other one there has gone away
-abbrev pub turned_at : ℕ → List ℕ → Mark → (List ℕ → ℕ → Option Mark) → List ℕ → ℕ → Option Mark
-turned_at at of mark old term key = if (at == key) && bytes_eq of term then mark_turned mark (old term key) else old term key
 
 -- ---- terms in their order
 

@@ -1,10 +1,11 @@
-ghost use Rattle.std.specs.Prelude.{◌≡◌, ◌<◌, ◌^◌, ◌+◌, ℕ, List, IfOk, IsSome, None, OnErr, OnOk, Some, IfSome, IsTrue, false, length, find, option_map};
+ghost use Rattle.std.specs.Prelude.{◌≡◌, ◌<◌, ◌^◌, ◌+◌, ℕ, List, IfOk, IsSome, None, OnErr, OnOk, Some, IfSome, IsTrue, false, length};
+ghost use Rattle.std.specs.Prelude.{find, option_map};
 ghost use Rattle.std.specs.BTreeMap.{get, is_at};
 ghost use Rattle.std.specs.BTreeSet.{contains};
 ghost use Rattle.svr_short.specs.declared.place.Place.{Place};
 ghost use Rattle.svr_short.specs.Layout as spec;
-ghost use Rattle.svr_short.specs.Layout.{IsAlone, IsTurned, SetsAdd, SetsHolding, SetsMark, any_add, holding_cmp};
-ghost use Rattle.svr_short.specs.Short.{HasMarks, IsNextTerm, KeepsOthers, StandsAt, adds_at, edited_at, lacks, turned_at};
+ghost use Rattle.svr_short.specs.Layout.{IsAlone, IsTurned, SetsAdd, SetsHolding, SetsMark, any_add, holding_cmp, turned_at};
+ghost use Rattle.svr_short.specs.Short.{HasMarks, IsNextTerm, KeepsOthers, StandsAt, adds_at, edited_at, lacks};
 ghost use Rattle.svr_short.specs.Short.{mark_at, mark_in, marks_of, number_of, place_cmp, under_number};
 ghost use Rattle.svr_iter.specs.Marks.{next_add};
 ghost use Rattle.svr_tokens.specs.Tokens.{has_term};

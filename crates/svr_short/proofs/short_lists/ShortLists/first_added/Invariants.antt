@@ -4,4 +4,5 @@ use Rattle.svr_short.proofs.short_lists.ShortLists.first_added.Given as goal
 
 abbrev pub invariant-loop-term : goal.invariant-loop-term
 invariant-loop-term l =
-    find (λ (e : List ℕ × ℕ). any_add l.self.marks e.1) l.term-iterator ≡ find (λ (e : List ℕ × ℕ). any_add l.self.marks e.1) l.initial.term-iterator
+    find (λ (e : List ℕ × ℕ). any_add l.self.marks e.1) l.term-iterator
+    ≡ find (λ (e : List ℕ × ℕ). any_add l.self.marks e.1) l.initial.term-iterator

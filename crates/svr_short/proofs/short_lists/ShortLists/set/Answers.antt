@@ -11,13 +11,15 @@ pub invariant_of-self-in-Ok : goal.invariant_of-self-in-Ok
 invariant_of-self-in-Ok c = (
   c.self.invariant.0,
   marked-set _ _ _ _ _ _ _ c.args.place (Some c.args.mark) c.self.invariant.1 (λ some. (search rules, (c.requires.key, c.requires.id)))
-      (subst (λ (v : Lists). spec.IsAlone (mark_at v.marks) c.args.place) (sym c.self.view_is) c.requires.alone) c.in_ok-insert.ensures.updates.0 c.in-Ok.ensures.adds c.in-Ok.ensures.held,
+      (subst (λ (v : Lists). spec.IsAlone (mark_at v.marks) c.args.place) (sym c.self.view_is) c.requires.alone)
+      c.in_ok-insert.ensures.updates.0 c.in-Ok.ensures.adds c.in-Ok.ensures.held,
 )
 
 pub invariant_of-self-in-Err : goal.invariant_of-self-in-Err
 invariant_of-self-in-Err c = (
   c.self.invariant.0,
-  marked-set _ _ _ _ _ _ _ c.args.place None c.self.invariant.1 (λ some. absurd (cc)) (subst (λ (v : Lists). spec.IsAlone (mark_at v.marks) c.args.place) (sym c.self.view_is) c.requires.alone)
+  marked-set _ _ _ _ _ _ _ c.args.place None c.self.invariant.1 (λ some. absurd (cc))
+      (subst (λ (v : Lists). spec.IsAlone (mark_at v.marks) c.args.place) (sym c.self.view_is) c.requires.alone)
       (mark-undone (get place_cmp c.self.inside.marks) (get place_cmp c.insert.new.self) (get place_cmp c.remove.new.self) c.args.place
       (Some c.args.mark) c.in_ok-insert.ensures.updates.0 c.remove.ensures.updates.0)
       (add-undone (contains place_cmp c.self.inside.adds) (contains place_cmp c.put_beside.new.adds)

@@ -14,8 +14,8 @@ returns c =
     let n = c.in-Some.number.now in
     let es = c.self.inside.marks.entries in
     let none = rest_all deref_pair c.loop-place.place-iterator c.next.new.self c.next.result c.in-None.is c.next.ensures.steps in
-    let range = entries_at c.range-place-items.result es c.new.result.start (place_at n c.args.key 0) c.new.result.end (place_at n c.args.key top)
-    c.new.ensures.start c.new.ensures.end (c.range-place-items.ensures.between (search rules)) in
+    let range = entries_at c.range-place-items.result es c.new.result.start (place_at n c.args.key 0) c.new.result.end
+    (place_at n c.args.key top) c.new.ensures.start c.new.ensures.end (c.range-place-items.ensures.between (search rules)) in
     subst (λ (v : Lists). c.loop-place.into.items ≡ marks_at c.args.key (marks_of v c.args.term.now)) c.self.view_is
     (gathered c.loop-place.into.items c.loop-place.place-iterator c.range-place-items.result (search rules) none ∙ ap (map marked) range
     ∙ at_key n c.args.key top es c.range-place-items.ensures.ordered c.self.invariant.1.key_fits c.self.invariant.1.id_fits (omega arith)
