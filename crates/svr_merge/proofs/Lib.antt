@@ -1,0 +1,5 @@
+mod Begun
+mod Fitting
+mod Keyed
+mod Scored
+pub mod Sorting

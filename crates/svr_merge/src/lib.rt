@@ -2,9 +2,8 @@
 #![tactic(auto)]
 
 mod method;
-
-
-
+mod run;
+mod scores;
 
 pub use method::method_for;
-
+pub use run::MergeRun;
