@@ -1,5 +1,6 @@
 mod Begun
 mod Fitting
-mod Keyed
 mod Scored
+pub mod Slicing
 pub mod Sorting
+pub mod Touching

@@ -1,5 +1,5 @@
 -- A merge that was begun, and the merge of a listing that it stands for.
-use Rattle.std.specs.Prelude.{◌≡◌, ℕ, List, [], map, Option, unwrap_or, if◌then◌else◌}
+use Rattle.std.specs.Prelude.{◌≡◌, ℕ, List, [], ◌∷◌, map, Option, None, Some, unwrap_or, if◌then◌else◌}
 use Rattle.std.specs.Str.{bytes_eq}
 use Rattle.svr_chunks.specs.declared.chosen.Chosen.{Chosen}
 use Rattle.svr_chunks.specs.Chosen.{chosen_rules}
@@ -19,6 +19,15 @@ pub record Run : Type 0 where
 -- the pages of a term; none where it has none
 abbrev pub pages_under : List (List ℕ × List PageRef) → List ℕ → List PageRef
 pages_under lists term = unwrap_or (pages_at lists term) []
+
+-- pages that there are
+abbrev pub if_any : List PageRef → Option (List PageRef)
+if_any [] = None
+if_any (page ∷ pages) = Some (page ∷ pages)
+
+-- a term has these pages now, or is not there where there is none, and every other has its own
+abbrev pub PutsPages : List (List ℕ × List PageRef) → List (List ℕ × List PageRef) → List ℕ → List PageRef → Type 0
+PutsPages old new term pages = (t : List ℕ) → pages_at new t ≡ (if bytes_eq term t then if_any pages else pages_at old t)
 
 -- it has the rules, the new keys, the last term and the pages of a merge
 pub record StandsForMerge (run : Run) (m : Merge) : Type 0 where

@@ -3,11 +3,13 @@ ghost use Rattle.svr_chunks.specs.Chosen.{chosen_rules};
 ghost use Rattle.svr_idmap.specs.Ids.{SetsValue, value_at};
 ghost use Rattle.svr_listing.specs.Listing.{hit_of};
 ghost use Rattle.svr_listing.specs.declared.document.Document.{Document};
-ghost use Rattle.svr_listing.specs.Merges.{begin};
+ghost use Rattle.svr_listing.specs.Merges.{begin, is_after};
+ghost use Rattle.svr_long.specs.Heads.{are_heads};
+ghost use Rattle.svr_long.specs.Lists.{pages_at};
 ghost use Rattle.svr_schema.specs.Lawful.{IsMethod};
 ghost use Rattle.svr_merge.specs.Rules.{rules_now};
 ghost use Rattle.svr_merge.specs.Layout.{HasKeysOf, HaveKeys};
-ghost use Rattle.svr_merge.specs.Runs.{StandsForMerge};
+ghost use Rattle.svr_merge.specs.Runs.{PutsPages, StandsForMerge};
 
 use crate::method::method_for;
 use crate::scores::scores_of;
@@ -69,6 +71,19 @@ fn keys_by(alloc: Global, method: &Chosen, documents: &[Hit]) -> Result<IdMap<u6
     Ok(keys)
 }
 
+/// Gives a term its pages, if there is one.
+fn put_pages(lists: &mut LongLists, term: Text, pages: Vec<PageRef>) -> Result<(), Memory>
+    requires absent { pages_at lists.old term ≡ None }
+    requires heads { are_heads pages.items ≡ true }
+    ensures puts { OnOk result (PutsPages lists.old lists.new term pages.items) }
+    ensures err { OnErr result (lists.new ≡ lists.old) }
+{
+    if !pages.is_empty() {
+        lists.put(term, pages)?;
+    }
+    Ok(())
+}
+
 impl MergeRun {
     /// Begins a merge beside these documents: the method of the schema for their scores, and for each the key of its score.
     pub fn begin(alloc: Global, documents: &[Hit], spec: &MethodSpec) -> Result<MergeRun, Memory>
@@ -112,10 +127,33 @@ impl MergeRun {
         &self.method
     }
 
+    /// Gives the next term its pages; none where all of its documents were touched. After an error all stays.
+    pub fn sliced(&mut self, alloc: Global, term: Text, pages: Vec<PageRef>) -> Result<(), Memory>
+        requires after { is_after self.old.last term ≡ true }
+        requires heads { are_heads pages.items ≡ true }
+        ensures last { OnOk result (self.new.last ≡ Some term) }
+        ensures pages { OnOk result (PutsPages self.old.lists self.new.lists term pages.items) }
+        ensures kept { OnOk result (self.new ≡ record self.old { last = self.new.last; lists = self.new.lists }) }
+        ensures err { OnErr result (self.new ≡ self.old) }
+    {
+        let last = term.copy(alloc)?;
+        put_pages(&mut self.lists, term, pages)?;
+        self.last = Some(last);
+        Ok(())
+    }
+
     /// The last sliced term.
     pub fn last(&self) -> Option<&Text>
         ensures { option_copied result ≡ self.now.last }
     {
         self.last.as_ref()
+    }
+
+    /// The pages of the sliced terms, and the method.
+    pub fn finish(self) -> (LongLists, Chosen)
+        ensures lists { result.0 ≡ self.lists }
+        ensures method { result.1 ≡ self.method }
+    {
+        (self.lists, self.method)
     }
 }
