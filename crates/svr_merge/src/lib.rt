@@ -2,6 +2,7 @@
 #![tactic(auto)]
 
 mod method;
+mod pages;
 mod run;
 mod scores;
 

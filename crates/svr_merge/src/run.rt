@@ -1,17 +1,20 @@
 ghost use Rattle.std.specs.Prelude.{◌≡◌, ◌≤◌, ◌<◌, ◌^◌, All, IfOk, IfSome, List, None, OnErr, OnOk, Option, Some, [], map, option_copied, true};
+ghost use Rattle.std.specs.List.Sorted.{IsStrictlyIncreasing};
 ghost use Rattle.svr_chunks.specs.Chosen.{chosen_rules};
 ghost use Rattle.svr_idmap.specs.Ids.{SetsValue, value_at};
 ghost use Rattle.svr_listing.specs.Listing.{hit_of};
 ghost use Rattle.svr_listing.specs.declared.document.Document.{Document};
-ghost use Rattle.svr_listing.specs.Merges.{begin, is_after};
+ghost use Rattle.svr_listing.specs.Merges.{Merge, begin, is_after, pairs_of};
 ghost use Rattle.svr_long.specs.Heads.{are_heads};
 ghost use Rattle.svr_long.specs.Lists.{pages_at};
 ghost use Rattle.svr_schema.specs.Lawful.{IsMethod};
+ghost use Rattle.svr_merge.specs.Images.{pages_bytes, pairs_by};
 ghost use Rattle.svr_merge.specs.Rules.{rules_now};
 ghost use Rattle.svr_merge.specs.Layout.{HasKeysOf, HaveKeys};
 ghost use Rattle.svr_merge.specs.Runs.{PutsPages, StandsForMerge};
 
 use crate::method::method_for;
+use crate::pages::{pairs_by, write_pages};
 use crate::scores::scores_of;
 use std::alloc::Global;
 use std::marker::Model;
@@ -147,6 +150,16 @@ impl MergeRun {
         ensures { option_copied result ≡ self.now.last }
     {
         self.last.as_ref()
+    }
+
+    /// The whole pages of those of these documents that have a new key: in page order, 255 in each page but the last.
+    pub fn images(&self, alloc: Global, ids: &[DocId]) -> Result<Vec<u8>, Memory>
+        requires { IsStrictlyIncreasing ids.now }
+        ensures bytes { IfOk result (λ bytes. bytes.items ≡ pages_bytes (pairs_by self.now.keys ids.now)) }
+        ensures stands { IfOk result (λ bytes. (m : Merge) → StandsForMerge self.now m → bytes.items ≡ pages_bytes (pairs_of m ids.now)) }
+    {
+        let pairs = pairs_by(alloc, &self.keys, ids)?;
+        write_pages(alloc, pairs.as_slice())
     }
 
     /// The pages of the sliced terms, and the method.
