@@ -1,18 +1,17 @@
 -- The begin of a merge.
 use Rattle.std.proofs.Common.{◌≡◌, ◌==◌, ℕ, Bool, true, false, cond, List, [], ◌∷◌, map, Option, Some, None, option_map}
-use Rattle.std.proofs.Common.{refl, sym, ap, subst, ◌∙◌}
+use Rattle.std.proofs.Common.{refl, sym, ap, ◌∙◌}
 use Rattle.std.specs.List.{find}
 use Rattle.svr_chunks.specs.Chosen.{chosen_rules}
 use Rattle.svr_chunks.specs.declared.chosen.Chosen.{Chosen}
-use Rattle.svr_idmap.specs.Ids.{value_at}
 use Rattle.svr_listing.specs.Listing.{document_at, hit_of}
 use Rattle.svr_listing.specs.declared.document.Document.{Document}
-use Rattle.svr_listing.specs.Merges.{begin, new_key}
+use Rattle.svr_listing.specs.Merges.{begin}
 use Rattle.svr_listing.specs.Methods.{Rules}
 use Rattle.svr_listing.proofs.Merging.{new_key-begin}
 use Rattle.svr_num.specs.declared.hit.Hit.{Hit}
 use Rattle.svr_merge.specs.Layout.{HasKeysOf, key_among}
-use Rattle.svr_merge.specs.Runs.{Run, StandsForMerge}
+use Rattle.svr_merge.specs.Runs.{StandsForMerge}
 
 among-hits : (rules : Rules) (ds : List Document) (id : ℕ)
     → key_among rules (map hit_of ds) id ≡ option_map (λ (d : Document). rules.key d.score) (document_at ds id)

@@ -1,5 +1,5 @@
 -- The pairs of ids with new keys.
-use Rattle.std.proofs.Common.{◌≡◌, ◌<◌, ◌==◌, ◌&&◌, ◌||◌, ◌+◌, ◌^◌, ℕ, zero, suc, Bool, true, false, not, List, [], ◌∷◌, length, Option, Some, None, option_map}
+use Rattle.std.proofs.Common.{◌≡◌, ◌<◌, ◌==◌, ◌&&◌, ◌||◌, ◌+◌, ◌^◌, ℕ, suc, Bool, true, false, not, List, [], ◌∷◌, length, Option, Some, None, option_map}
 use Rattle.std.proofs.Common.{slice_index, IfSome, get_or, take, ◌++◌, refl, sym, ap, subst, ◌∙◌, arith}
 use Rattle.std.specs.List.{AllByRecursion, cons_option, filter_map, list_all, list_any}
 use Rattle.std.specs.List.Sorted.{IsStrictlyIncreasing}
@@ -8,12 +8,12 @@ use Rattle.std.proofs.lemmas.List.{take_more}
 use Rattle.std.proofs.lemmas.List.Elements.{filter_map-append}
 use Rattle.svr_idmap.specs.Ids.{value_at}
 use Rattle.svr_listing.specs.Bounds.{Rises}
-use Rattle.svr_listing.specs.Merges.{Merge, in_page_order, new_key, new_pair, pairs_of}
+use Rattle.svr_listing.specs.Merges.{Merge, in_page_order, new_pair, pairs_of}
 use Rattle.svr_listing.proofs.Cutting.{Differ, PairsInOrder, any-in_page_order, in_page_order-in_order}
 use Rattle.svr_postpage.specs.declared.pair.Pair.{Pair}
-use Rattle.svr_postpage.specs.Pairs.{are_in_order, is_before, is_in_range}
-use Rattle.svr_merge.specs.Images.{pair_by, pairs_by}
-use Rattle.svr_merge.specs.Layout.{HaveKeys, IsKeyOf, MayFillPages}
+use Rattle.svr_postpage.specs.Pairs.{are_in_order, is_in_range}
+use Rattle.svr_merge.specs.Images.{MayFillPages, pair_by, pairs_by}
+use Rattle.svr_merge.specs.Layout.{HaveKeys, IsKeyOf}
 use Rattle.svr_merge.specs.Runs.{Run, StandsForMerge}
 
 -- ---- ids in their order

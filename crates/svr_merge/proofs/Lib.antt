@@ -1,7 +1,7 @@
 mod Begun
 mod Fitting
-mod Imaged
-mod Paged
+pub mod Imaged
+pub mod Paged
 mod Scored
 pub mod Slicing
 pub mod Sorting

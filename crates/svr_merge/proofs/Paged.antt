@@ -1,22 +1,21 @@
 -- Pairs in page order, page by page.
-use Rattle.std.proofs.Common.{◌≡◌, ◌<◌, ◌≤◌, ◌==◌, ◌&&◌, ◌||◌, ◌+◌, ◌++◌, ℕ, zero, suc, Bool, true, false, cond, not, List, [], ◌∷◌, length, take, drop}
-use Rattle.std.proofs.Common.{nat_cmp, nat_le, nat_lt, refl, sym, ap, subst, ◌∙◌, arith, length-take, length-drop, min, inl, inr, ap₂, append_assoc, append-nil}
-use Rattle.std.specs.Cmp.{IsTotalOrder, back_total, nat_cmp_is, nat_cmp_total, on_total, then_total}
-use Rattle.std.specs.List.{AllByRecursion, flat_map, list_all, list_any}
+use Rattle.std.proofs.Common.{◌≡◌, ◌<◌, ◌≤◌, ◌+◌, ◌++◌, ℕ, zero, suc, true, cond, List, [], ◌∷◌, length, map, take, drop}
+use Rattle.std.proofs.Common.{nat_cmp, nat_le, nat_lt, refl, sym, ap, subst, ◌∙◌, arith, length-take, length-drop, min, ap₂, append_assoc, append-nil}
+use Rattle.std.specs.Cmp.{IsTotalOrder, back_total, nat_cmp_total, on_total, then_total}
+use Rattle.std.specs.List.{AllByRecursion, flat_map, list_all}
 use Rattle.std.specs.List.Sorted.{IsPermutation, IsSorted}
-use Rattle.std.specs.Ordering.{is_gt}
-use Rattle.std.specs.declared.cmp.Ordering.TheVariants.{Less, Equal, Greater}
-use Rattle.std.proofs.lemmas.Bool.{and_parts, cases_order}
+use Rattle.std.proofs.lemmas.Bool.{and_from, and_parts}
 use Rattle.std.proofs.lemmas.Bool.Decides.{nat_tests}
 use Rattle.std.proofs.lemmas.List.{drop_min, take_min}
 use Rattle.std.proofs.lemmas.Map.Lookups.{CmpEqualImpliesEq, exact_pairs, exact_unsigned}
-use Rattle.svr_listing.specs.Merges.{cut, in_page_order, with_pair}
-use Rattle.svr_listing.proofs.Cutting.{PairsInOrder}
+use Rattle.svr_listing.specs.declared.pages.Page.{Page}
+use Rattle.svr_listing.specs.Merges.{cut, in_page_order, pages_from, pages_with, with_pair}
+use Rattle.svr_long.specs.Heads.{are_heads, heads, is_before_all}
 use Rattle.svr_postpage.specs.declared.pair.Pair.{Pair}
 use Rattle.svr_postpage.specs.Pages.{page_bytes}
 use Rattle.svr_postpage.specs.Pairs.{are_in_order, fill_a_page, is_before, is_in_range}
-use Rattle.svr_merge.specs.Images.{pages_bytes}
-use Rattle.svr_merge.specs.Layout.{MayFillPages, page_rank}
+use Rattle.svr_merge.specs.Images.{MayFillPages, pages_bytes}
+use Rattle.svr_merge.specs.Layout.{page_rank}
 use Rattle.svr_merge.proofs.Sorting.{Tells, in_order, in_order-is, put}
 
 -- ---- sorting
@@ -113,10 +112,10 @@ pub pages_bytes-step : (ps : List Pair) → 0 < length ps → pages_bytes ps ≡
 pages_bytes-step [] some = absurd (omega (arith, some))
 pages_bytes-step (p ∷ ps) some =
     ap (flat_map page_bytes) (
-      cut-limits 254 (length (p ∷ ps)) (suc (length ps)) (p ∷ ps) (omega arith) (omega arith)
-      ∙ one_more (length ps) p ps
-      ∙ ap (λ (l : List (List Pair)). take 255 (p ∷ ps) ∷ l)
-      (cut-limits 254 (length ps) (length (drop 255 (p ∷ ps))) (drop 255 (p ∷ ps)) (omega (arith, length-drop 254 ps)) (omega arith))
+    cut-limits 254 (length (p ∷ ps)) (suc (length ps)) (p ∷ ps) (omega arith) (omega arith)
+    ∙ one_more (length ps) p ps
+    ∙ ap (λ (l : List (List Pair)). take 255 (p ∷ ps) ∷ l)
+    (cut-limits 254 (length ps) (length (drop 255 (p ∷ ps))) (drop 255 (p ∷ ps)) (omega (arith, length-drop 254 ps)) (omega arith))
     )
 
 pub no_pages : (ps : List Pair) → length ps ≡ 0 → pages_bytes ps ≡ []
@@ -145,3 +144,52 @@ written before after all rest page others some more first later is =
 pub all-written : (bytes all : List ℕ) (rest : List Pair) → length rest ≡ 0 → bytes ++ pages_bytes rest ≡ all → bytes ≡ all
 all-written bytes all rest none is =
     sym (append-nil bytes) ∙ ap (λ (bs : List ℕ). bytes ++ bs) (sym (no_pages rest none)) ∙ is
+
+-- ---- laws for callers
+
+-- each part is one that a page may hold
+pub fill-parts : (limit : ℕ) (ps : List Pair) → MayFillPages ps → AllByRecursion (λ part. fill_a_page part ≡ true) (cut 255 limit ps)
+unfolding cut
+fill-parts zero ps may = tt
+fill-parts (suc limit) [] may = tt
+fill-parts (suc limit) (p ∷ ps) may =
+    (fill-first (p ∷ ps) (omega arith) may, fill-parts limit (drop 255 (p ∷ ps)) (may-rest 255 (p ∷ ps) may))
+
+before_later : (a b c : Pair) → is_before a b ≡ true → is_before b c ≡ true → is_before a c ≡ true
+before_later a b c e f = grind (arith, nat_tests)
+
+first_before : (n : ℕ) (p : Pair) (ps : List Pair) (r : Pair) (rs : List Pair) → are_in_order (p ∷ ps) ≡ true → drop n ps ≡ r ∷ rs
+    → is_before p r ≡ true
+first_before zero p [] r rs order e = absurd (cc)
+first_before zero p (q ∷ ps) r rs order e =
+    let same : q ≡ r = cc in
+    subst (λ (x : Pair). is_before p x ≡ true) same (and_parts (is_before p q) (are_in_order (q ∷ ps)) order).0
+first_before (suc n) p [] r rs order e = absurd (cc)
+first_before (suc n) p (q ∷ qs) r rs order e =
+    let parts = and_parts (is_before p q) (are_in_order (q ∷ qs)) order in
+    before_later p q r parts.0 (first_before n q qs r rs parts.1 e)
+
+next_head : (place : ℕ → ℕ) (n limit : ℕ) (p : Pair) (rest : List Pair)
+    → ((r : Pair) (rs : List Pair) → rest ≡ r ∷ rs → is_before p r ≡ true)
+    → is_before_all p (heads (map (λ (page : Page). page.head) (pages_from place n (cut 255 limit rest)))) ≡ true
+unfolding cut
+next_head place n zero p rest first = refl
+next_head place n (suc limit) p [] first = refl
+next_head place n (suc limit) p (r ∷ rs) first = first r rs refl
+
+heads-cut : (place : ℕ → ℕ) (n limit : ℕ) (ps : List Pair) → MayFillPages ps
+    → are_heads (map (λ (page : Page). page.head) (pages_from place n (cut 255 limit ps))) ≡ true
+unfolding cut
+heads-cut place n zero ps may = refl
+heads-cut place n (suc limit) [] may = refl
+heads-cut place n (suc limit) (p ∷ ps) may =
+    let here : is_in_range p ≡ true = (and_parts (is_in_range p) (list_all is_in_range ps) may.within).0 in
+    and_from _ _ here (and_from _ _
+    (next_head place (n + 1) limit p (drop 254 ps) (λ r rs e. first_before 254 p ps r rs may.ordered e))
+    (heads-cut place (n + 1) limit (drop 255 (p ∷ ps)) (may-rest 255 (p ∷ ps) may)))
+
+-- the pages of pairs begin as pages of one term do
+pub heads-pages_with : (place : ℕ → ℕ) (n : ℕ) (ps : List Pair) → MayFillPages ps
+    → are_heads (map (λ page. page.head) (pages_with place n ps)) ≡ true
+unfolding pages_with
+heads-pages_with place n ps may = heads-cut place n (length ps) ps may

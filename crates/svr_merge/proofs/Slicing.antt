@@ -1,7 +1,6 @@
 -- A term is sliced.
-use Rattle.std.proofs.Common.{◌≡◌, ◌<◌, ◌==◌, ◌&&◌, ℕ, Bool, true, false, cond, List, [], ◌∷◌, ◌++◌, length, map, Option, None, Some, unwrap_or}
-use Rattle.std.proofs.Common.{refl, sym, ap, ap₂, subst, ◌∙◌, append-nil, append_assoc, if◌then◌else◌, arith}
-use Rattle.std.specs.List.{flat_map}
+use Rattle.std.proofs.Common.{◌≡◌, ◌==◌, ◌&&◌, ℕ, Bool, true, false, cond, List, [], ◌∷◌, ◌++◌, map, Option, None, Some, unwrap_or}
+use Rattle.std.proofs.Common.{refl, sym, ap, ap₂, subst, ◌∙◌, append-nil, append_assoc, arith}
 use Rattle.std.specs.Str.{bytes_eq}
 use Rattle.std.proofs.lemmas.Bool.Decides.{nat_tests}
 use Rattle.svr_chunks.specs.Chosen.{chosen_rules}
@@ -15,7 +14,7 @@ use Rattle.svr_listing.proofs.Terms.{after_later, not_before_itself, same_term}
 use Rattle.svr_long.specs.Lists.{pages_at}
 use Rattle.svr_postpage.specs.declared.page_ref.PageRef.{PageRef}
 use Rattle.svr_merge.specs.Layout.{NoLater}
-use Rattle.svr_merge.specs.Runs.{PutsPages, Run, StandsForMerge, if_any, pages_under}
+use Rattle.svr_merge.specs.Runs.{PutsPages, Run, StandsForMerge, if_any}
 
 turn : (a b : List ℕ) → bytes_eq a b ≡ bytes_eq b a
 turn [] [] = refl
@@ -62,9 +61,9 @@ refs-more (x ∷ lists) list t = by (bytes_eq t x.term) (refs-more lists list t)
         refs-append x.pages (pages_of (lists ++ (list ∷ [])) t)
         ∙ ap (λ (l : List PageRef). map (λ (p : Page). p.head) x.pages ++ l) e
         ∙ sym (append_assoc (map (λ (p : Page). p.head) x.pages) (map (λ (p : Page). p.head) (pages_of lists t))
-          (cond (bytes_eq t list.term) (map (λ (p : Page). p.head) list.pages) []))
+        (cond (bytes_eq t list.term) (map (λ (p : Page). p.head) list.pages) []))
         ∙ ap (λ (l : List PageRef). l ++ cond (bytes_eq t list.term) (map (λ (p : Page). p.head) list.pages) [])
-          (sym (refs-append x.pages (pages_of lists t)))
+        (sym (refs-append x.pages (pages_of lists t)))
     by false e = e
 
 under-if_any : (pages : List PageRef) → unwrap_or (if_any pages) [] ≡ pages
@@ -98,11 +97,11 @@ stands-sliced place stands l m n term old new pages was none after slices are = 
     by t true e =
         under-if_any pages ∙ are
         ∙ ap₂ (λ (ps : List Page) (b : Bool). map (λ (page : Page). page.head) ps
-          ++ cond b (map (λ (page : Page). page.head) (pages_with place n (new_pairs (stands term) l m))) [])
-          (sym (subst (λ (s : List ℕ). pages_of m.lists s ≡ []) (same_term term t e) (none term after)))
-          (sym (turn t term ∙ e))
+        ++ cond b (map (λ (page : Page). page.head) (pages_with place n (new_pairs (stands term) l m))) [])
+        (sym (subst (λ (s : List ℕ). pages_of m.lists s ≡ []) (same_term term t e) (none term after)))
+        (sym (turn t term ∙ e))
     by t false e =
         was.pages t
         ∙ sym (append-nil (map (λ (page : Page). page.head) (pages_of m.lists t)))
         ∙ ap (λ (b : Bool). map (λ (page : Page). page.head) (pages_of m.lists t)
-          ++ cond b (map (λ (page : Page). page.head) (pages_with place n (new_pairs (stands term) l m))) []) (sym (turn t term ∙ e))
+        ++ cond b (map (λ (page : Page). page.head) (pages_with place n (new_pairs (stands term) l m))) []) (sym (turn t term ∙ e))

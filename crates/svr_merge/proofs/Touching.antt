@@ -1,5 +1,5 @@
 -- Documents that changed are touched.
-use Rattle.std.proofs.Common.{◌≡◌, ℕ, None, cond, List, refl, sym, ap, ◌∙◌, if◌then◌else◌}
+use Rattle.std.proofs.Common.{◌≡◌, ℕ, None, cond, List, sym, ap, ◌∙◌, if◌then◌else◌}
 use Rattle.svr_chunks.specs.Chosen.{chosen_rules}
 use Rattle.svr_idmap.specs.Ids.{value_at}
 use Rattle.svr_listing.specs.Listing.{document_at}

@@ -1,6 +1,5 @@
 -- Words of private clauses.
 use Rattle.std.specs.Prelude.{◌≡◌, ◌<◌, ◌^◌, ℕ, ◌==◌, List, Option, None, find, option_map, IfSome, true}
-use Rattle.std.specs.List.{list_all}
 use Rattle.std.specs.Ordering.{flip_args, nat_cmp, on, then_cmp}
 use Rattle.std.specs.declared.cmp.Ordering.{Ordering}
 use Rattle.svr_num.specs.declared.hit.Hit.{Hit}
@@ -10,7 +9,6 @@ use Rattle.svr_listing.specs.Methods.{Rules}
 use Rattle.svr_long.specs.Lists.{pages_at}
 use Rattle.svr_postpage.specs.declared.page_ref.PageRef.{PageRef}
 use Rattle.svr_postpage.specs.declared.pair.Pair.{Pair}
-use Rattle.svr_postpage.specs.Pairs.{are_in_order, is_in_range}
 
 -- the key of the score of the document with an id, if there is one
 abbrev pub key_among : Rules → List Hit → ℕ → Option ℕ
@@ -36,8 +34,3 @@ NoLater last lists = (term : List ℕ) → is_after last term ≡ true → pages
 -- the order of pages as an order of two
 abbrev pub page_rank : Pair → Pair → Ordering
 page_rank = then_cmp (flip_args (on (λ p. p.key) nat_cmp)) (on (λ p. p.id) nat_cmp)
-
--- pairs that pages may hold: within their ranges and in page order
-pub record MayFillPages (pairs : List Pair) : Type 0 where
-  pub within : list_all is_in_range pairs ≡ true
-  pub ordered : are_in_order pairs ≡ true

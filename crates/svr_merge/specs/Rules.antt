@@ -19,13 +19,13 @@ with_score score [] = score ∷ []
 with_score score (s ∷ ss) = if nat_le score s then score ∷ s ∷ ss else s ∷ with_score score ss
 
 -- scores ascending, each as often
-abbrev pub ascending : List ℕ → List ℕ
-ascending [] = []
-ascending (s ∷ ss) = with_score s (ascending ss)
+abbrev pub ascending_scores : List ℕ → List ℕ
+ascending_scores [] = []
+ascending_scores (s ∷ ss) = with_score s (ascending_scores ss)
 
 -- the scores of documents, ascending
 abbrev pub scores_of : List Hit → List ℕ
-scores_of documents = ascending (map (λ d. d.score) documents)
+scores_of documents = ascending_scores (map (λ d. d.score) documents)
 
 -- the rules of a schema's method for these documents
 abbrev pub rules_now : MethodSpec → List Hit → Rules

@@ -4,7 +4,7 @@ ghost use Rattle.svr_chunks.specs.Chosen.{chosen_rules};
 ghost use Rattle.svr_schema.specs.Lawful.{IsMethod};
 ghost use Rattle.svr_merge.specs.Rules.{rules_for};
 
-use svr_chunks::{ChunkMethod, Chosen, bounds_of};
+use svr_chunks::{Chosen, ChunkMethod, bounds_of};
 use svr_method::{IdMethod, ScoreMethod, ThresholdMethod};
 use svr_num::{SCORE_MAX, Score};
 use svr_schema::MethodSpec;

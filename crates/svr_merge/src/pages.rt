@@ -2,8 +2,7 @@ ghost use Rattle.std.specs.Prelude.{◌≡◌, ◌++◌, [], ◌∷◌, IfOk, On
 ghost use Rattle.svr_listing.specs.Merges.{in_page_order};
 ghost use Rattle.svr_postpage.specs.Pages.{page_bytes};
 ghost use Rattle.svr_postpage.specs.Pairs.{fill_a_page};
-ghost use Rattle.svr_merge.specs.Images.{pages_bytes, pair_by, pairs_by};
-ghost use Rattle.svr_merge.specs.Layout.{MayFillPages};
+ghost use Rattle.svr_merge.specs.Images.{MayFillPages, pages_bytes, pair_by, pairs_by};
 
 use std::alloc::Global;
 use svr_edge::Memory;

@@ -8,7 +8,7 @@ ghost use Rattle.svr_listing.specs.Merges.{Merge, begin, is_after, pairs_of};
 ghost use Rattle.svr_long.specs.Heads.{are_heads};
 ghost use Rattle.svr_long.specs.Lists.{pages_at};
 ghost use Rattle.svr_schema.specs.Lawful.{IsMethod};
-ghost use Rattle.svr_merge.specs.Images.{pages_bytes, pairs_by};
+ghost use Rattle.svr_merge.specs.Images.{MayFillPages, pages_bytes, pairs_by};
 ghost use Rattle.svr_merge.specs.Rules.{rules_now};
 ghost use Rattle.svr_merge.specs.Layout.{HasKeysOf, HaveKeys};
 ghost use Rattle.svr_merge.specs.Runs.{PutsPages, StandsForMerge};
@@ -155,6 +155,7 @@ impl MergeRun {
     /// The whole pages of those of these documents that have a new key: in page order, 255 in each page but the last.
     pub fn images(&self, alloc: Global, ids: &[DocId]) -> Result<Vec<u8>, Memory>
         requires { IsStrictlyIncreasing ids.now }
+        ensures ordered { IfOk result (λ _. MayFillPages (pairs_by self.now.keys ids.now)) }
         ensures bytes { IfOk result (λ bytes. bytes.items ≡ pages_bytes (pairs_by self.now.keys ids.now)) }
         ensures stands { IfOk result (λ bytes. (m : Merge) → StandsForMerge self.now m → bytes.items ≡ pages_bytes (pairs_of m ids.now)) }
     {

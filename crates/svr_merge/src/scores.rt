@@ -1,6 +1,6 @@
 ghost use Rattle.std.specs.Prelude.{◌≡◌, ◌≤◌, All, IfOk, map};
 ghost use Rattle.std.specs.List.Sorted.{IsNonDecreasing};
-ghost use Rattle.svr_merge.specs.Rules.{ascending, scores_of};
+ghost use Rattle.svr_merge.specs.Rules.{ascending_scores, scores_of};
 
 use std::alloc::Global;
 use svr_edge::Memory;
@@ -9,7 +9,7 @@ use svr_num::{Hit, SCORE_MAX, Score};
 /// Puts scores in ascending order.
 fn sort_scores(scores: &mut [Score])
     requires { All (λ score. score ≤ SCORE_MAX) scores.old }
-    ensures value { scores.new ≡ ascending scores.old }
+    ensures value { scores.new ≡ ascending_scores scores.old }
     ensures ascending { IsNonDecreasing scores.new }
     ensures within { All (λ score. score ≤ SCORE_MAX) scores.new }
 {

@@ -9,4 +9,4 @@ pub returns : goal.returns
 returns c =
     sorted-pairs c.args.pairs.now c.sort_unstable_by.new.self c.sort_unstable_by.ensures.permutation
     (c.sort_unstable_by.ensures.sorted (λ x y. is_lt (page_rank x y)) (ranks_by page_total (λ p. p))
-      (always_returns_same _ (λ a r. is_lt r ≡ is_lt (page_rank a.0.now a.1.0.now)) _ (λ a r f' k. search rules)))
+    (always_returns_same _ (λ a r. is_lt r ≡ is_lt (page_rank a.0.now a.1.0.now)) _ (λ a r f' k. search rules)))

@@ -1,6 +1,5 @@
 use Rattle.std.proofs.Common.{◌≡◌, ◌++◌, length}
-use Rattle.svr_merge.specs.Images.{pages_bytes}
-use Rattle.svr_merge.specs.Layout.{MayFillPages}
+use Rattle.svr_merge.specs.Images.{MayFillPages, pages_bytes}
 use Rattle.svr_merge.proofs.pages.write_pages.Given as goal
 
 abbrev pub invariant-loop-rest : goal.invariant-loop-rest
