@@ -1,0 +1,4 @@
+pub mod Images
+pub mod Layout
+pub mod Rules
+pub mod Runs
