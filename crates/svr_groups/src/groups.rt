@@ -9,8 +9,8 @@ use std::marker::Model;
 use svr_edge::Memory;
 use svr_num::{Aggregate, DocId};
 
-/// For each component, by its place, and each id that has a counted row, the values of its counted rows. An id of which no
-/// row is left takes no memory.
+/// For each component, by its place, and each id that has a counted row, the values of its counted rows. No list is kept of
+/// an id of which no row is left.
 #[derive(Drop)]
 pub struct Groups {
     components: Vec<ById>,

@@ -8,7 +8,9 @@ use Rattle.std.specs.List.{AllByRecursion}
 use Rattle.std.specs.Map.{remove_entry, set_value}
 use Rattle.std.specs.Option.{option_or}
 use Rattle.std.proofs.lemmas.Bool.{cases_order}
-use Rattle.svr_idmap.specs.Ids.{SetsValue, value_at}
+use Rattle.std.specs.List.Sorted.{IsStrictlySortedBy}
+use Rattle.std.proofs.lemmas.Map.{keys-set_value}
+use Rattle.svr_idmap.specs.Ids.{Ascends, SetsValue, value_at}
 use Rattle.svr_idmap.specs.Layout.{AreParted}
 use Rattle.svr_idmap.proofs.Tests.{set-append_high, set-append_low}
 use Rattle.svr_idmap.proofs.Tests.{insert-append_high, insert-append_low, insert-greater, insert-less, insert-same, or_none, others-above}
@@ -88,13 +90,13 @@ module _ {V : Type 0} where
       replaced-low value some = sym (set-append_low id value dense sparse (some-low some))
 
       pub parted-replaced_low : (value : V) → AreParted (set_value (is_at (nat_cmp id)) dense value) sparse
-      parted-replaced_low value = record { below = all-replaced (λ k. k < 2 ^ 18) id value dense h.below; above = h.above }
+      parted-replaced_low value = record { below = all-replaced (λ k. k < 2 ^ 18) id value dense h.below; above = h.above; ascends = h.ascends }
 
       pub removed-low : remove_entry (is_at (nat_cmp id)) dense ++ sparse ≡ remove_entry (is_at (nat_cmp id)) (dense ++ sparse)
       removed-low = sym (remove-append_low id dense sparse (others-above id sparse (all-above id sparse low h.above)))
 
       pub parted-inserted_low : (value : V) → AreParted (insert_entry nat_cmp dense id value) sparse
-      parted-inserted_low value = record { below = all-inserted (λ k. k < 2 ^ 18) id value dense low h.below; above = h.above }
+      parted-inserted_low value = record { below = all-inserted (λ k. k < 2 ^ 18) id value dense low h.below; above = h.above; ascends = h.ascends }
 
       pub SetsValue-removed_low : (after : List (ℕ × V)) → SetsValue dense after id None → SetsValue (dense ++ sparse) (after ++ sparse) id None
       SetsValue-removed_low after sets k =
@@ -104,7 +106,7 @@ module _ {V : Type 0} where
           ∙ ap (λ o. if id == k then None else o) (sym (value_at-append dense sparse k))
 
       pub parted-removed_low : AreParted (remove_entry (is_at (nat_cmp id)) dense) sparse
-      parted-removed_low = record { below = all-removed (λ k. k < 2 ^ 18) id dense h.below; above = h.above }
+      parted-removed_low = record { below = all-removed (λ k. k < 2 ^ 18) id dense h.below; above = h.above; ascends = h.ascends }
 
     -- ---- a higher one
 
@@ -121,14 +123,19 @@ module _ {V : Type 0} where
       replaced-high value = sym (set-append_high id value dense sparse (others-below id dense (all-below id dense high h.below)))
 
       pub parted-replaced_high : (value : V) → AreParted dense (set_value (is_at (nat_cmp id)) sparse value)
-      parted-replaced_high value = record { below = h.below; above = all-replaced (λ k. 2 ^ 18 ≤ k) id value sparse h.above }
+      parted-replaced_high value = record {
+        below = h.below;
+        above = all-replaced (λ k. 2 ^ 18 ≤ k) id value sparse h.above;
+        ascends = subst (IsStrictlySortedBy nat_cmp) (sym (keys-set_value (is_at (nat_cmp id)) sparse value)) h.ascends;
+      }
 
       pub removed-high : dense ++ remove_entry (is_at (nat_cmp id)) sparse ≡ remove_entry (is_at (nat_cmp id)) (dense ++ sparse)
       removed-high = sym (remove-append_high id dense sparse (others-below id dense (all-below id dense high h.below)))
 
-      pub parted-inserted_high : (value : V) → AreParted dense (insert_entry nat_cmp sparse id value)
-      parted-inserted_high value =
-          record { below = h.below; above = all-inserted (λ k. 2 ^ 18 ≤ k) id value sparse high h.above }
+      pub parted-inserted_high : (value : V) → Ascends (insert_entry nat_cmp sparse id value)
+          → AreParted dense (insert_entry nat_cmp sparse id value)
+      parted-inserted_high value ascends =
+          record { below = h.below; above = all-inserted (λ k. 2 ^ 18 ≤ k) id value sparse high h.above; ascends = ascends }
 
       pub SetsValue-removed_high : (after : List (ℕ × V)) → SetsValue sparse after id None → SetsValue (dense ++ sparse) (dense ++ after) id None
       SetsValue-removed_high after sets k =
@@ -137,5 +144,5 @@ module _ {V : Type 0} where
           (λ e. ap (value_at dense) (sym (same_id id k e)) ∙ value_at-none id dense (others-below id dense (all-below id dense high h.below)))
           ∙ ap (λ o. if id == k then None else o) (sym (value_at-append dense sparse k))
 
-      pub parted-removed_high : AreParted dense (remove_entry (is_at (nat_cmp id)) sparse)
-      parted-removed_high = record { below = h.below; above = all-removed (λ k. 2 ^ 18 ≤ k) id sparse h.above }
+      pub parted-removed_high : Ascends (remove_entry (is_at (nat_cmp id)) sparse) → AreParted dense (remove_entry (is_at (nat_cmp id)) sparse)
+      parted-removed_high ascends = record { below = h.below; above = all-removed (λ k. 2 ^ 18 ≤ k) id sparse h.above; ascends = ascends }

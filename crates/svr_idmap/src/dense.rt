@@ -1,15 +1,16 @@
 //! Values at the places of their ids.
-ghost use Rattle.std.specs.Prelude.{◌≡◌, ◌<◌, ◌≤◌, ◌^◌, [], IfOk, OnOk, OnErr, IsSome, None, Some, length, option_copied, vec_len};
+ghost use Rattle.std.specs.Prelude.{◌≡◌, ◌<◌, ◌≤◌, ◌^◌, [], IfOk, OnOk, OnErr, IsSome, None, Some, find, length, nat_le, option_copied, option_map, vec_len};
 ghost use Rattle.std.specs.BTreeMap.{insert_entry, is_at};
 ghost use Rattle.std.specs.Map.{remove_entry, set_value};
 ghost use Rattle.std.specs.Ordering.{nat_cmp};
-ghost use Rattle.svr_idmap.specs.Ids.{SetsValue, value_at};
-ghost use Rattle.svr_idmap.specs.Layout.{KeepsEntries, count_of};
+ghost use Rattle.svr_idmap.specs.Ids.{Ascends, SetsValue, entry_after, value_at};
+ghost use Rattle.svr_idmap.specs.Layout.{KeepsEntries, count_of, entries_from, place_behind};
 
 use std::alloc::Global;
 use std::marker::Model;
 use std::mem;
 use svr_edge::Memory;
+use svr_num::DocId;
 
 /// Values of ids below 2^18. The vector ends with the greatest id that ever had a value.
 #[derive(Drop)]
@@ -57,6 +58,28 @@ fn count_of<V>(value: &Option<V>) -> usize
     }
 }
 
+/// The first place above an id, or of all.
+fn place_behind(after: Option<DocId>) -> usize
+    ensures { result ≡ place_behind after }
+{
+    match after {
+        Some(id) => id.saturating_add(1) as usize,
+        None => 0,
+    }
+}
+
+/// The first value at a place or above it, with its id.
+fn first_from<V>(values: &[Option<V>], from: usize) -> Option<(DocId, &V)>
+    ensures { option_map (λ e. (e.0, e.1.now)) result ≡ find (λ e. nat_le from e.0) (entries_from 0 values.now) }
+{
+    for id in from..values.len() {
+        if let Some(value) = &values[id] {
+            return Some((id as DocId, value));
+        }
+    }
+    None
+}
+
 impl<V: Drop> Dense<V> {
     /// No values.
     pub fn new(alloc: Global) -> Dense<V>
@@ -85,6 +108,14 @@ impl<V: Drop> Dense<V> {
         } else {
             None
         }
+    }
+
+    /// The first value above an id, or of all, with its id. It walks over the places without a value.
+    pub fn next(&self, after: Option<DocId>) -> Option<(DocId, &V)>
+        ensures value { option_map (λ e. (e.0, e.1.now)) result ≡ entry_after self.now after }
+        ensures ordered { Ascends self.now }
+    {
+        first_from(self.values.as_slice(), place_behind(after))
     }
 
     /// Gives an id a value, and answers the one that it had.

@@ -1,14 +1,16 @@
-ghost use Rattle.std.specs.Prelude.{◌≡◌, [], IfOk, OnOk, OnErr, IsSome, Some, None, length, option_copied};
+ghost use Rattle.std.specs.Prelude.{◌≡◌, [], IfOk, OnOk, OnErr, IsSome, Some, None, length, option_copied, option_map};
 ghost use Rattle.std.specs.BTreeMap.{insert_entry, is_at};
 ghost use Rattle.std.specs.Map.{remove_entry, set_value};
 ghost use Rattle.std.specs.Ordering.{nat_cmp};
-ghost use Rattle.svr_idmap.specs.Ids.{SetsValue, value_at};
+ghost use Rattle.svr_idmap.specs.Ids.{Ascends, SetsValue, entry_after, value_at};
+ghost use Rattle.svr_idmap.specs.Layout.{behind};
 
 use crate::dense::Dense;
 use std::alloc::Global;
 use std::collections::BTreeMap;
 use std::marker::Model;
 use std::mem;
+use std::ops::Bound;
 use svr_edge::Memory;
 use svr_num::DocId;
 
@@ -50,6 +52,26 @@ fn replace_in<V: Drop>(values: &mut BTreeMap<DocId, V>, id: DocId, value: V) -> 
     }
 }
 
+/// Where the ids above one begin, or all.
+fn behind(after: Option<DocId>) -> Bound<DocId>
+    ensures { result ≡ behind after }
+{
+    match after {
+        Some(id) => Bound::Excluded(id),
+        None => Bound::Unbounded,
+    }
+}
+
+/// The first value of a map above an id, or of all, with its id.
+fn next_in<V>(values: &BTreeMap<DocId, V>, after: Option<DocId>) -> Option<(DocId, &V)>
+    ensures { option_map (λ e. (e.0, e.1.now)) result ≡ entry_after values.now.entries after }
+{
+    match values.range((behind(after), Bound::Unbounded)).next() {
+        Some((id, value)) => Some((*id, value)),
+        None => None,
+    }
+}
+
 impl<V: Drop> IdMap<V> {
     /// No values.
     pub fn new(alloc: Global) -> IdMap<V>
@@ -77,6 +99,19 @@ impl<V: Drop> IdMap<V> {
         } else {
             self.sparse.get(&id)
         }
+    }
+
+    /// The value of the least id above the given one, or of all, with its id. To go from `None` on by each id that was
+    /// answered meets every value once, in ascending order. A call costs a search in the map of the higher ids at most, or
+    /// walks over the places of lower ids without a value that lie in between: such a walk over all visits each place once.
+    pub fn next(&self, after: Option<DocId>) -> Option<(DocId, &V)>
+        ensures value { option_map (λ e. (e.0, e.1.now)) result ≡ entry_after self.now after }
+        ensures ordered { Ascends self.now }
+    {
+        if let Some(found) = self.dense.next(after) {
+            return Some(found);
+        }
+        next_in(&self.sparse, after)
     }
 
     /// Gives an id a value, and answers the one that it had.

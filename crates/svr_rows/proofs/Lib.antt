@@ -6,3 +6,5 @@ pub mod Lawful
 pub mod Entries
 pub mod Laws
 pub mod Beside
+pub mod Read
+pub mod Walked

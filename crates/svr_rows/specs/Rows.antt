@@ -8,6 +8,7 @@ use Rattle.svr_schema.specs.declared.table.ColumnKind.{ColumnKind}
 use Rattle.svr_schema.specs.declared.table.Table.{Table}
 use Rattle.svr_schema.specs.Lookups.{is_kind}
 use Rattle.svr_schema.specs.Lawful.{kind_of}
+use Rattle.svr_idmap.specs.Ids.{is_above}
 use Rattle.svr_rows.specs.declared.row.Row.{Row}
 use Rattle.svr_rows.specs.declared.row.Given.{Given}
 use Rattle.svr_rows.specs.declared.row.Given.TheVariants as given
@@ -67,6 +68,14 @@ has_row rows id = list_any (λ row. id_of row == id) rows
 
 abbrev pub row_at : List Row → ℕ → Option Row
 row_at rows id = find (λ row. id_of row == id) rows
+
+-- the first row whose id is above the given one, or of all; in ascending rows that of the least such id
+abbrev pub row_after : List Row → Option ℕ → Option Row
+row_after rows after = find (λ row. is_above after (id_of row)) rows
+
+-- the rows whose ids are above the given one, or all
+abbrev pub rows_above : List Row → Option ℕ → List Row
+rows_above rows after = filter (λ row. is_above after (id_of row)) rows
 
 -- the rows with this one, in the place of its id, and in place of the one that has its id
 unfoldable pub with_row : List Row → Row → List Row

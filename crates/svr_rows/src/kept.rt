@@ -1,6 +1,6 @@
 //! The rows of one table.
 ghost use Rattle.std.specs.Prelude.{◌≡◌, ◌≤◌, ◌<◌, ℕ, length, map, false, IfOk, IfErr, OnOk, OnErr, Some, None, option_map};
-ghost use Rattle.svr_rows.specs.Rows.{HasId, TableRows, has_row, id_of, kinds_of, no_rows, row_at, row_bytes, with_row, without_row};
+ghost use Rattle.svr_rows.specs.Rows.{HasId, TableRows, has_row, id_of, kinds_of, no_rows, row_after, row_at, row_bytes, with_row, without_row};
 ghost use Rattle.svr_rows.specs.Changes.{new_refusal, row_refusal, with_rows_of};
 ghost use Rattle.svr_schema.specs.Lawful.{IsTable};
 
@@ -62,6 +62,16 @@ impl KeptTable {
         ensures { option_map (λ row. row.now) result ≡ row_at self.now.rows id }
     {
         self.rows.get(id)
+    }
+
+    /// The row of the least id above the given one, or of all.
+    pub fn next(&self, after: Option<DocId>) -> Option<&Row>
+        ensures { option_map (λ row. row.now) result ≡ row_after self.now.rows after }
+    {
+        match self.rows.next(after) {
+            Some((_, row)) => Some(row),
+            None => None,
+        }
     }
 
     pub fn has(&self, id: DocId) -> bool

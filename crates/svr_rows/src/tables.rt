@@ -1,6 +1,6 @@
-ghost use Rattle.std.specs.Prelude.{◌≡◌, ◌<◌, ◌≤◌, ◌+◌, ℕ, [], length, map, slice_get, IfOk, IfErr, IfSome, OnOk, OnErr, Some, None, option_map};
+ghost use Rattle.std.specs.Prelude.{◌≡◌, ◌<◌, ◌≤◌, ◌+◌, ℕ, [], ◌∷◌, length, map, slice_get, IfOk, IfErr, IfSome, MatchOption, OnOk, OnErr, Some, None, option_map};
 ghost use Rattle.svr_schema.specs.Lawful.{IsSchema};
-ghost use Rattle.svr_rows.specs.Rows.{HasId, IsRowOf, id_of, kinds_in, rows_in, row_at, text_bytes, no_rows, with_row, without_row};
+ghost use Rattle.svr_rows.specs.Rows.{HasId, IsRowOf, id_of, kinds_in, rows_above, rows_in, row_after, row_at, text_bytes, no_rows, with_row, without_row};
 ghost use Rattle.svr_rows.specs.Changes.{changed, refusal_of, row_before, with_rows};
 ghost use Rattle.svr_rows.specs.Kept.{CanPut};
 ghost use Rattle.svr_rows.specs.Load.{IsAhead, refusal_beside};
@@ -177,6 +177,20 @@ impl Tables {
         ensures fits { IfSome result (λ row. IsRowOf (kinds_in self.now table) row.now) }
     {
         self.tables[table as usize].row(id)
+    }
+
+    /// The row of the least id above the given one, or of all; `None` where there is none. To go from `None` on by the id of
+    /// each row that is answered meets every row of the table once, in ascending order: `walk` says so step by step. All
+    /// steps together cost a look-up for each row and a pass over the places of ids that have none.
+    pub fn next_row(&self, table: u8, after: Option<DocId>) -> Option<&Row>
+        requires { table < length self.now }
+        ensures value { option_map (λ row. row.now) result ≡ row_after (rows_in self.now table) after }
+        ensures walk { let rows = rows_in self.now table in
+            MatchOption result (rows_above rows after ≡ []) (λ row. rows_above rows after ≡ row.now ∷ rows_above rows (Some (id_of row.now))) }
+        ensures fits { IfSome result (λ row. IsRowOf (kinds_in self.now table) row.now) }
+        ensures has_id { IfSome result (λ row. HasId row.now) }
+    {
+        self.tables[table as usize].next(after)
     }
 
     /// How many rows a table has.

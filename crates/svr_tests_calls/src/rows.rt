@@ -24,9 +24,11 @@ enum Call {
     Load(u8),
     /// The row of an id.
     Row(u8),
+    /// The row of the least id above one, or of all where none is given.
+    Next(u8),
 }
 
-use Call::{Delete, Insert, Load, Remove, Update};
+use Call::{Delete, Insert, Load, Next, Remove, Update};
 
 /// Calls one after the other, the words of their rows or ids, and what they answer: a refusal, or the row that stands or stood
 /// there. Then the rows in docs and in ids, and the bytes of all texts.
@@ -42,6 +44,29 @@ const STEPS: &[(Call, &str, &str, (u32, u32, u64))] = &[
     (Call::Row(1), "5", "5", (3, 1, 5)),
     (Call::Row(1), "3", "-", (3, 1, 5)),
     (Call::Row(0), "9223372036854775808", "-", (3, 1, 5)),
+    (Next(0), "", "3 7 fghi", (3, 1, 5)),
+    (Next(0), "0", "3 7 fghi", (3, 1, 5)),
+    (Next(0), "3", "5 10 a", (3, 1, 5)),
+    (Next(0), "5", "9 0 ", (3, 1, 5)),
+    (Next(0), "9", "-", (3, 1, 5)),
+    (Next(1), "", "5", (3, 1, 5)),
+    (Next(1), "5", "-", (3, 1, 5)),
+    (Next(1), "18446744073709551615", "-", (3, 1, 5)),
+    // Ids above 262,143, which are kept elsewhere.
+    (Insert(1), "262144", "-", (3, 2, 5)),
+    (Insert(1), "9223372036854775807", "-", (3, 3, 5)),
+    (Next(1), "5", "262144", (3, 3, 5)),
+    (Next(1), "262143", "262144", (3, 3, 5)),
+    (Next(1), "262144", "9223372036854775807", (3, 3, 5)),
+    (Next(1), "9223372036854775807", "-", (3, 3, 5)),
+    (Delete(1), "262144", "262144", (3, 2, 5)),
+    (Next(1), "5", "9223372036854775807", (3, 2, 5)),
+    (
+        Delete(1),
+        "9223372036854775807",
+        "9223372036854775807",
+        (3, 1, 5),
+    ),
     (Insert(0), "5 0 x", "KeyExists", (3, 1, 5)),
     (Update(0), "4 0 x", "NoRow", (3, 1, 5)),
     (Delete(0), "4", "NoRow", (3, 1, 5)),
@@ -53,6 +78,8 @@ const STEPS: &[(Call, &str, &str, (u32, u32, u64))] = &[
     (Delete(1), "5", "5", (3, 0, 3)),
     (Remove(0), "9", "9 0 ", (2, 0, 3)),
     (Remove(0), "3", "3 0 xy", (1, 0, 1)),
+    (Next(0), "", "5 10 a", (1, 0, 1)),
+    (Next(1), "", "-", (1, 0, 1)),
     (Insert(0), "1 5 ab", "-", (2, 0, 3)),
     // Of several causes that hold at once the first is answered.
     (Insert(2), "-1", "NoTable", (2, 0, 3)),
@@ -127,6 +154,7 @@ impl TwoTables {
             }
             Load(table) => self.load(alloc, table, words),
             Call::Row(table) => Ok(line_of(alloc, self.tables.row(table.min(1), id(words)))?),
+            Next(table) => Ok(line_of(alloc, self.tables.next_row(table.min(1), given_id(words)))?),
         }
     }
 
@@ -174,6 +202,10 @@ fn refusal(alloc: Global, why: RowRefusal) -> Result<String, AllocError> {
 
 fn id(words: &str) -> u64 {
     words.parse().unwrap_or(0)
+}
+
+fn given_id(words: &str) -> Option<u64> {
+    words.parse().ok()
 }
 
 /// A row of the cells that words say: a number, or a text; `a*3` is `aaa`.

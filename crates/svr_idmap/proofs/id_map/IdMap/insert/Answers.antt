@@ -1,6 +1,6 @@
 use Rattle.std.proofs.Common.{◌≡◌, ◌++◌, Some, nat_cmp, ap, sym, ◌∙◌, subst, arith, rules}
 use Rattle.std.specs.BTreeMap.{insert_entry}
-use Rattle.svr_idmap.specs.Ids.{SetsValue, value_at}
+use Rattle.svr_idmap.specs.Ids.{Ascends, SetsValue, value_at}
 use Rattle.svr_idmap.specs.Layout.{AreParted}
 use Rattle.svr_idmap.proofs.Parted.{inserted-high, inserted-low, parted-inserted_high, parted-inserted_low, value-high, value-low}
 use Rattle.svr_idmap.proofs.Tests.{SetsValue-insert}
@@ -25,7 +25,8 @@ returns-then-id-lt-DENSE_IDS-clause-before g c =
 pub invariant_of-self-2 : goal.invariant_of-self-2
 invariant_of-self-2 g c =
     subst (AreParted c.self.inside.dense) (sym c.in_ok-before-2.ensures.entries)
-    (parted-inserted_high c.self.inside.dense c.self.inside.sparse.entries c.self.invariant c.args.id (omega (arith, c.if-id-lt-DENSE_IDS.false)) c.args.value)
+    (parted-inserted_high c.self.inside.dense c.self.inside.sparse.entries c.self.invariant c.args.id (omega (arith, c.if-id-lt-DENSE_IDS.false)) c.args.value
+    (subst Ascends c.in_ok-before-2.ensures.entries c.in_ok-before-2.ensures.ordered))
 
 pub returns-clause-changed : goal.returns-clause-changed
 returns-clause-changed g c =

@@ -1,7 +1,7 @@
 use Rattle.std.proofs.Common.{◌≡◌, ◌++◌, None, nat_cmp, ap, sym, ◌∙◌, subst, arith, rules}
 use Rattle.std.specs.BTreeMap.{is_at}
 use Rattle.std.specs.Map.{remove_entry}
-use Rattle.svr_idmap.specs.Ids.{SetsValue, value_at}
+use Rattle.svr_idmap.specs.Ids.{Ascends, SetsValue, value_at}
 use Rattle.svr_idmap.specs.Layout.{AreParted}
 use Rattle.svr_idmap.proofs.Parted.{SetsValue-removed_high, SetsValue-removed_low, parted-removed_high, parted-removed_low, removed-high, removed-low, value-high, value-low}
 use Rattle.svr_idmap.proofs.id_map.IdMap.remove.Goals as goal
@@ -13,7 +13,8 @@ invariant_of-self g c =
 pub invariant_of-self-else-id-lt-DENSE_IDS : goal.invariant_of-self-else-id-lt-DENSE_IDS
 invariant_of-self-else-id-lt-DENSE_IDS g c =
     subst (AreParted c.self.inside.dense) (sym c.remove-else-id-lt-DENSE_IDS.ensures.entries)
-    (parted-removed_high c.self.inside.dense c.self.inside.sparse.entries c.self.invariant c.args.id (omega (arith, c.if-id-lt-DENSE_IDS.false)))
+    (parted-removed_high c.self.inside.dense c.self.inside.sparse.entries c.self.invariant c.args.id (omega (arith, c.if-id-lt-DENSE_IDS.false))
+    (subst Ascends c.remove-else-id-lt-DENSE_IDS.ensures.entries c.remove-else-id-lt-DENSE_IDS.ensures.ordered))
 
 pub returns-then-id-lt-DENSE_IDS-clause-changed : goal.returns-then-id-lt-DENSE_IDS-clause-changed
 returns-then-id-lt-DENSE_IDS-clause-changed g c =
