@@ -1,5 +1,6 @@
 pub mod Following
 pub mod Lists
+pub mod NextTerm
 pub mod Placing
 pub mod Searching
 pub mod Telling

@@ -3,5 +3,6 @@
 
 mod index;
 mod search;
+mod terms;
 
 pub use index::Index;
