@@ -104,8 +104,8 @@ Run-up_to {P} {R} {next} {key = key} {at = at} {now = now} run d lt all =
 
 pub Run-more : {P R T : Type 0} {groups : P → List ℕ → List Group} {next : P → Option ℕ} {may : P → ℕ → ℕ → Bool} {pages : P → ℕ
     → List PageRef}
-    {told : Option (List ℕ)} {gives : R → PageRef → R → Type 0} {fails : R → PageRef → PageFault → R → Type 0} {key at : ℕ} {start now : List P} {from mid to : R} {Holds : List (List ℕ)
-    → Type 0}
+    {told : Option (List ℕ)} {gives : R → PageRef → R → Type 0} {fails : R → PageRef → PageFault → R → Type 0} {key at : ℕ}
+    {start now : List P} {from mid to : R} {Holds : List (List ℕ) → Type 0}
     → Run groups next may pages told gives key at start now from mid Holds
     → (d new : P) (more : List ℕ) (Then : List (List ℕ) → Type 0) (value : T) → at < length now
     → TakesAt groups next may pages told key (get_or now at d) new more

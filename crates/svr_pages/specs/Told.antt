@@ -64,7 +64,8 @@ module _ {D : Type 0} (view : D → DiskView) (reach : ℕ) (want : PageRef) (ol
   abbrev told : Option (List ℕ)
   told = option_map (take reach) (view old).content
 
-  within : {P : Type 0} (bytes : List ℕ) → FromCache view reach want old new pages kept bytes ⊎ (FromDisk view reach want old new pages kept × P)
+  within : {P : Type 0} (bytes : List ℕ)
+      → FromCache view reach want old new pages kept bytes ⊎ (FromDisk view reach want old new pages kept × P)
       → want.at + 4096 ≤ reach
   within bytes (inl cached) = cached.within
   within bytes (inr (read, kept)) = read.within
@@ -75,7 +76,8 @@ module _ {D : Type 0} (view : D → DiskView) (reach : ℕ) (want : PageRef) (ol
       let there = read_is_told reach (view old) want.at given.bytes (within given.bytes given.from) given.are_read in
       ap (damage_in want) (sym (there bytes tells)) ∙ given.wanted
 
-  same_content : {P : Type 0} (bytes : List ℕ) → FromCache view reach want old new pages kept bytes ⊎ (FromDisk view reach want old new pages kept × P)
+  same_content : {P : Type 0} (bytes : List ℕ)
+      → FromCache view reach want old new pages kept bytes ⊎ (FromDisk view reach want old new pages kept × P)
       → (view new).content ≡ (view old).content
   same_content bytes (inl cached) = ap (λ d. (view d).content) cached.same_disk
   same_content bytes (inr (read, kept)) = read.once.stays.content
