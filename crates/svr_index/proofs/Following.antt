@@ -6,7 +6,7 @@ use Rattle.svr_num.specs.declared.list_key.ListKey.{ListKey}
 use Rattle.svr_chunks.specs.Chosen.{chosen_rules}
 use Rattle.svr_chunks.specs.declared.chosen.Chosen.{Chosen}
 use Rattle.svr_idmap.specs.Ids.{SetsValue, value_at}
-use Rattle.svr_iter.specs.Effective.{mark_by, mark_here}
+use Rattle.svr_iter.specs.Effective.{mark_here}
 use Rattle.svr_iter.specs.declared.marks.Mark.{Mark}
 use Rattle.svr_iter.specs.declared.marks.Mark.TheVariants as mark
 use Rattle.svr_listing.specs.declared.document.Document.{Document}

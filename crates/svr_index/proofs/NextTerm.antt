@@ -1,16 +1,15 @@
 -- The lesser of the next terms with pages and with Adds is the next live term.
-use Rattle.std.proofs.Common.{◌≡◌, ◌⊎◌, inl, inr, ℕ, ◌<◌, ◌==◌, ◌&&◌, ◌||◌, Bool, true, false, cond, List, [], ◌∷◌, ◌++◌, length, map, filter, find, Option, Some, None, unwrap_or, refl, ap, sym, subst, ◌∙◌, arith, Ordering, Less, Equal, Greater}
-use Rattle.std.specs.Cmp.Lexicographic.{slice_cmp, nat_list_cmp_total}
+use Rattle.std.proofs.Common.{◌≡◌, ◌⊎◌, inl, inr, ℕ, ◌<◌, ◌==◌, ◌||◌, Bool, true, false, cond, List, [], ◌∷◌, ◌++◌, length, map, filter, Option, Some, None, unwrap_or, refl, ap, sym, subst, ◌∙◌, arith, Ordering, Less, Equal, Greater}
+use Rattle.std.specs.Cmp.Lexicographic.{slice_cmp}
 use Rattle.std.specs.List.{AllByRecursion, list_any, slice_get}
 use Rattle.std.specs.List.Sorted.{IsStrictlySortedBy}
 use Rattle.std.specs.Map.{keys_of}
 use Rattle.std.specs.Option.{IsSome}
-use Rattle.std.specs.Ordering.{is_lt, nat_cmp, ordering_reverse}
+use Rattle.std.specs.Ordering.{is_lt, nat_cmp}
 use Rattle.std.specs.Str.{bytes_eq}
 use Rattle.std.proofs.lemmas.Bool.{or_left, or_right}
 use Rattle.std.proofs.lemmas.Slice.Eq.{bytes_eq-Decides}
 use Rattle.svr_iter.specs.Effective.{mark_by, mark_here}
-use Rattle.svr_iter.specs.declared.marks.Mark.{Mark}
 use Rattle.svr_iter.specs.declared.marks.Mark.TheVariants as mark
 use Rattle.svr_iter.proofs.Effecting.{any_found, found_any, up_documents}
 use Rattle.svr_listing.specs.Kept.{AreInOrder, IsListing}
@@ -22,8 +21,8 @@ use Rattle.svr_listing.proofs.Terms.{first-live, later_still, none-live, not_bef
 use Rattle.svr_long.specs.Lists.{Ascends, HavePages, pages_at, term_after}
 use Rattle.svr_postpage.specs.declared.page_ref.PageRef.{PageRef}
 use Rattle.svr_postpage.specs.declared.pair.Pair.{Pair}
-use Rattle.svr_short.specs.Short.{HasAdd, IsAfter, IsNextTerm, mark_in}
-use Rattle.svr_index.specs.Index.{Indexed, StandsFor, mark_by_listing}
+use Rattle.svr_short.specs.Short.{HasAdd, IsAfter, IsNextTerm}
+use Rattle.svr_index.specs.Index.{Indexed, StandsFor}
 use Rattle.svr_index.specs.Terms.{lesser_term}
 use Rattle.svr_index.proofs.Following.{at}
 

@@ -1,4 +1,4 @@
-use Rattle.std.proofs.Common.{option_map, refl, sym, subst, ◌∙◌}
+use Rattle.std.proofs.Common.{option_map, sym, subst, ◌∙◌}
 use Rattle.svr_index.specs.Index.{Indexed, StandsFor}
 use Rattle.svr_index.proofs.NextTerm.{next-live}
 use Rattle.svr_index.proofs.index.Index.next_term.Goals as goal
