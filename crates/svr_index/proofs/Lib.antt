@@ -1,4 +1,5 @@
 pub mod Following
+pub mod Gathering
 pub mod Lists
 pub mod NextTerm
 pub mod Placing

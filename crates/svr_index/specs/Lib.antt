@@ -1,3 +1,4 @@
+pub mod Docs
 pub mod Index
 pub mod Layout
 pub mod Search
