@@ -17,7 +17,8 @@ use Rattle.svr_listing.specs.Groups.{AreGroups, IsGroup, first_key, ids_in}
 use Rattle.svr_listing.specs.declared.group.Group.{Group}
 use Rattle.svr_listing.specs.Joined.{is_in, term_groups}
 use Rattle.svr_listing.specs.Kept.{Ascends}
-use Rattle.svr_listing.specs.Listing.{Document, Listed, Listing, documents_of, stands_by}
+use Rattle.svr_listing.specs.declared.document.Listed.{Listed}
+use Rattle.svr_listing.specs.Listing.{Listing, documents_of, stands_by}
 use Rattle.svr_listing.specs.Merges.{ids_under}
 use Rattle.svr_listing.proofs.Finding.{weaker}
 use Rattle.svr_listing.proofs.Joining.{higher}
@@ -54,7 +55,7 @@ abbrev pub HaveOneKey : (ℕ → ℕ → Bool) → Type 0
 HaveOneKey may = (key other id : ℕ) → may key id ≡ true → may other id ≡ true → key ≡ other
 
 -- an id came at a key above the next one
-record CameAbove (may : ℕ → ℕ → Bool) (next : Option ℕ) (id : ℕ) : Type 0 where
+pub record CameAbove (may : ℕ → ℕ → Bool) (next : Option ℕ) (id : ℕ) : Type 0 where
   pub key : ℕ
   pub above : IsLess next (Some key)
   pub allowed : may key id ≡ true
@@ -85,7 +86,7 @@ came-apart may key id other one came allowed = by (id == other) refl
 -- the ids of the next group come to them
 pub gathered-more : (may : ℕ → ℕ → Bool) (next new : Option ℕ) (all ids : List ℕ) → HaveOneKey may → AreGathered may next all
     → IsSome next → IsGroup may (record { key = unwrap_or next 0; ids = ids }) → IsLess new next → AreGathered may new (all ++ ids)
-gathered-more may None new all ids one are some group less = absurd (some)
+gathered-more may None new all ids one are some group less = absurd (cc)
 gathered-more may (Some key) new all ids one are some group less =
     let allowed = from_all (λ id. may key id ≡ true) ids group.allowed in
     record {
