@@ -1,31 +1,29 @@
 -- The ids of all groups of a list: each once, and those of the documents that stand under its term.
-use Rattle.std.proofs.Common.{◌≡◌, ℕ, ◌<◌, ◌≤◌, ◌+◌, ◌^◌, ◌==◌, Bool, true, false, cond, List, [], ◌∷◌, ◌++◌, map, Option, Some, None, IsSome, unwrap_or, refl, ap, sym, subst, ◌∙◌, arith}
-use Rattle.std.specs.List.{All, AllByRecursion, IsDistinct, filter}
-use Rattle.std.specs.List.Sorted.{IsNonDecreasing, IsPermutation, IsSorted, IsStrictlyIncreasing}
-use Rattle.std.specs.Option.{ForSome, option_map_or}
-use Rattle.std.proofs.lemmas.List.{append-nil, append_assoc}
+use Rattle.std.proofs.Common.{◌≡◌, ℕ, ◌<◌, ◌^◌, ◌==◌, Bool, true, false, cond, List, [], ◌∷◌, ◌++◌, map, Option, Some, None, IsSome, drop, length, take, unwrap_or, refl, ap, sym, subst, ◌∙◌, arith}
+use Rattle.std.proofs.Math.Seq.{take-append_seam}
+use Rattle.std.specs.List.{AllByRecursion, IsDistinct, filter}
+use Rattle.std.specs.List.Sorted.{IsNonDecreasing, IsPermutation, IsStrictlyIncreasing}
+use Rattle.std.proofs.lemmas.List.{append_assoc}
 use Rattle.std.proofs.lemmas.Map.Keys.{IsDistinct-IsPermutation, IsDistinct-cons, IsDistinct-head, IsDistinct-tail, IsStrictlyIncreasing-from_distinct}
 use Rattle.std.proofs.lemmas.Bool.Decides.{nat_tests}
-use Rattle.svr_num.specs.declared.list_key.ListKey.{ListKey}
-use Rattle.svr_iter.specs.GroupLaws.{all-append, from_all, to_all}
-use Rattle.svr_iter.specs.Marks.{is_listed}
-use Rattle.svr_iter.specs.Merging.{Above, Up, Up-from}
+use Rattle.svr_iter.specs.GroupLaws.{all-append, from_all}
+use Rattle.svr_iter.specs.Merging.{Up, Up-from}
 use Rattle.svr_iter.specs.Taking.{IsLess}
 use Rattle.svr_iter.specs.Truths.{eq_from}
 use Rattle.svr_iter.proofs.Membership.{same_ids}
-use Rattle.svr_listing.specs.Groups.{AreGroups, IsGroup, first_key, ids_in}
+use Rattle.svr_listing.specs.Groups.{IsGroup, ids_in}
 use Rattle.svr_listing.specs.declared.group.Group.{Group}
-use Rattle.svr_listing.specs.Joined.{is_in, term_groups}
+use Rattle.svr_listing.specs.Joined.{is_in}
 use Rattle.svr_listing.specs.Kept.{Ascends}
 use Rattle.svr_listing.specs.declared.document.Listed.{Listed}
-use Rattle.svr_listing.specs.Listing.{Listing, documents_of, stands_by}
+use Rattle.svr_listing.specs.Listing.{stands_by}
 use Rattle.svr_listing.specs.Merges.{ids_under}
 use Rattle.svr_listing.proofs.Finding.{weaker}
 use Rattle.svr_listing.proofs.Joining.{higher}
 use Rattle.svr_listing.proofs.Under.{in_term_groups}
 use Rattle.svr_long.specs.Cursor.{page_pairs}
 use Rattle.svr_index.specs.Docs.{StandUnder}
-use Rattle.svr_index.specs.Index.{Indexed, StandsFor}
+use Rattle.svr_index.specs.Index.{Indexed}
 use Rattle.svr_index.specs.Layout.{IsListOf, TermList, groups_of_list}
 
 -- ---- ids that differ
@@ -108,24 +106,7 @@ pub front-more : (all ids : List ℕ) (key : ℕ) (start old new : List Group) �
 front-more all ids key start old new front is =
     append_assoc all ids (ids_in new) ∙ ap (λ (gs : List Group). all ++ ids_in gs) (sym is) ∙ front
 
-no_groups : (may : ℕ → ℕ → Bool) (next : Option ℕ) (groups : List Group) → AreGroups may next groups → next ≡ None → groups ≡ []
-no_groups may next [] are none = refl
-no_groups may next (group ∷ groups) are none = absurd (let e : Some group.key ≡ None = are.begin ∙ none in cc)
-
-pub front-end : (may : ℕ → ℕ → Bool) (next : Option ℕ) (all : List ℕ) (start groups : List Group) → AreGroups may next groups
-    → next ≡ None → all ++ ids_in groups ≡ ids_in start → all ≡ ids_in start
-front-end may next all start groups are none front =
-    sym (append-nil all) ∙ ap (λ (gs : List Group). all ++ ids_in gs) (sym (no_groups may next groups are none)) ∙ front
-
 -- ---- the ids of a list of one term
-
-pub listed-once : (entry : ℕ → Option ListKey) → HaveOneKey (is_listed entry)
-listed-once entry key other id here there = by (entry id) here there
-  where
-    by : (o : Option ListKey) → option_map_or (λ at. at.key == key) o false ≡ true → option_map_or (λ at. at.key == other) o false ≡ true
-        → key ≡ other
-    by None e f = absurd (cc)
-    by (Some at) e f = sym (eq_from at.key key e) ∙ eq_from at.key other f
 
 up-under : (p : Listed → Bool) (docs : List Listed) → Ascends (map (λ d. d.document) docs)
     → Up (map (λ (d : Listed). d.document.id) (filter p docs))
@@ -150,3 +131,7 @@ stand-under index term list bytes gathered ids is all same up = λ l ascends sto
 
 pub sorted-up : (xs ys : List ℕ) → IsPermutation xs ys → IsNonDecreasing ys → IsDistinct (λ a b. a == b) xs → IsStrictlyIncreasing ys
 sorted-up xs ys moved up differ = IsStrictlyIncreasing-from_distinct ys up (IsDistinct-IsPermutation _ flips xs ys moved differ)
+
+-- what is written back into a vector of as many ids
+pub written_back : (n : ℕ) (xs ys : List ℕ) → n ≡ length xs → take n (xs ++ drop (length xs) ys) ≡ xs
+written_back n xs ys e = ap (λ (k : ℕ). take k (xs ++ drop (length xs) ys)) e ∙ take-append_seam xs (drop (length xs) ys)

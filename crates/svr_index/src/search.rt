@@ -18,10 +18,13 @@ use svr_short::ShortLists;
 use svr_tokens::Tokens;
 use svr_topk::{Answer, scan};
 
-
 impl Index {
     /// The documents of one term, key by key.
-    pub(crate) fn list_of<'a>(&'a self, alloc: Global, term: &'a Text) -> Live<'a, LongCursor<'a>, ShortLists, ListKeys>
+    pub(crate) fn list_of<'a>(
+        &'a self,
+        alloc: Global,
+        term: &'a Text,
+    ) -> Live<'a, LongCursor<'a>, ShortLists, ListKeys>
         ensures { IsListOf self.now term.now result }
     {
         let long = LongCursor::new(self.long.pages(term));

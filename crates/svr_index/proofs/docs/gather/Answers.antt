@@ -1,4 +1,4 @@
-use Rattle.std.proofs.Common.{◌≡◌, ◌≤◌, ◌++◌, [], ℕ, Bool, List, refl, sym, ap, subst, ◌∙◌, arith, rules}
+use Rattle.std.proofs.Common.{◌≡◌, ◌++◌, ℕ, Bool, List, refl, sym, ap, subst, ◌∙◌, arith, rules}
 use Rattle.svr_listing.specs.Groups.{ids_in}
 use Rattle.svr_index.proofs.Gathering.{AreGathered, HaveOneKey, front-more, gathered-more, gathered-none}
 use Rattle.svr_index.proofs.docs.gather.Goals as goal
