@@ -78,7 +78,8 @@ came-apart may key id other one came allowed = by (id == other) refl
     by : (b : Bool) → (id == other) ≡ b → b ≡ false
     by false e = refl
     by true e =
-        let same : came.key ≡ key = one came.key key other (subst (λ (n : ℕ). may came.key n ≡ true) (eq_from id other e) came.allowed) allowed in
+        let there = subst (λ (n : ℕ). may came.key n ≡ true) (eq_from id other e) came.allowed in
+        let same : came.key ≡ key = one came.key key other there allowed in
         absurd (omega (arith, came.above))
 
 -- the ids of the next group come to them

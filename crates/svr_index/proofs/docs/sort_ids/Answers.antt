@@ -8,7 +8,8 @@ returns-clause-same c id = sym (list_any-IsPermutation (λ other. other == id) _
 
 pub returns-clause-ascending : goal.returns-clause-ascending
 returns-clause-ascending c =
-    sorted-up _ _ c.sort_unstable.ensures.permutation (IsNonDecreasingBy-from_sort (λ x. x) _ c.sort_unstable.ensures.sorted) c.requires.differ
+    sorted-up _ _ c.sort_unstable.ensures.permutation (IsNonDecreasingBy-from_sort (λ x. x) _ c.sort_unstable.ensures.sorted)
+    c.requires.differ
 
 pub returns-clause-fit : goal.returns-clause-fit
 returns-clause-fit c = All-permutation (λ id. id < 2 ^ 63) _ _ c.sort_unstable.ensures.permutation c.requires.fit
