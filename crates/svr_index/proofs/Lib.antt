@@ -1,5 +1,6 @@
 pub mod Asked
 pub mod Following
+pub mod Gathering
 pub mod Lists
 pub mod NextTerm
 pub mod Placing

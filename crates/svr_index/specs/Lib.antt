@@ -1,4 +1,5 @@
 pub mod Asked
+pub mod Docs
 pub mod Index
 pub mod Layout
 pub mod Search

@@ -21,7 +21,7 @@ use svr_topk::{Answer, scan};
 
 impl Index {
     /// The documents of one term, key by key.
-    fn list_of<'a>(
+    pub(crate) fn list_of<'a>(
         &'a self,
         alloc: Global,
         term: &'a Text,
