@@ -1,5 +1,6 @@
 -- Ids that are kept in place: those of the first so many that passed stand in front, the rest is as it was.
-use Rattle.std.proofs.Common.{◌≡◌, ℕ, zero, suc, ◌+◌, ◌<◌, ◌≤◌, Bool, true, false, cond, List, [], ◌∷◌, ◌++◌, length, slice_index, set, take, drop, filter, nat_le, refl, ap, sym, subst, ◌∙◌, arith}
+use Rattle.std.proofs.Common.{◌≡◌, ℕ, zero, suc, ◌+◌, ◌<◌, ◌≤◌, Bool, true, false, cond, List, [], ◌∷◌, ◌++◌, length, slice_index, set}
+use Rattle.std.proofs.Common.{take, drop, filter, nat_le, refl, ap, sym, subst, ◌∙◌, arith}
 use Rattle.std.specs.List.Sorted.{IsStrictlyIncreasing}
 use Rattle.std.proofs.lemmas.List.{append-nil, drop-set-lt, take_more, take_more_set}
 use Rattle.std.proofs.lemmas.Bool.{leb-true}

@@ -1,5 +1,6 @@
 -- The steps of taking the ids that stand at a key.
-use Rattle.std.proofs.Common.{◌≡◌, ℕ, zero, suc, ◌+◌, ◌<◌, ◌≤◌, Bool, true, false, cond, List, [], ◌∷◌, ◌++◌, length, get_or, slice_index, drop, filter, Option, Some, None, refl, ap, sym, subst, ◌∙◌, arith, add-one}
+use Rattle.std.proofs.Common.{◌≡◌, ℕ, zero, suc, ◌+◌, ◌<◌, ◌≤◌, Bool, true, false, cond, List, [], ◌∷◌, ◌++◌, length, get_or, slice_index}
+use Rattle.std.proofs.Common.{drop, filter, Option, Some, None, refl, ap, sym, subst, ◌∙◌, arith, add-one}
 use Rattle.std.specs.List.Sorted.{IsStrictlyIncreasing}
 use Rattle.std.proofs.lemmas.List.{append-nil, append_assoc}
 use Rattle.svr_num.specs.declared.list_key.ListKey.{ListKey}

@@ -1,5 +1,6 @@
 -- What was taken when no pair of the key is left, and what was asked for until then.
-use Rattle.std.proofs.Common.{◌≡◌, ◌<◌, ◌≤◌, ◌+◌, ◌*◌, ◌^◌, ◌==◌, ℕ, Bool, true, false, cond, List, [], ◌∷◌, ◌++◌, length, Option, Some, unwrap_or, Ok, Err, refl, sym, ap, subst, ◌∙◌, arith, leb-true, nat_eq}
+use Rattle.std.proofs.Common.{◌≡◌, ◌<◌, ◌≤◌, ◌+◌, ◌*◌, ◌^◌, ◌==◌, ℕ, Bool, true, false, cond, List, [], ◌∷◌, ◌++◌, length, Option, Some}
+use Rattle.std.proofs.Common.{unwrap_or, Ok, Err, refl, sym, ap, subst, ◌∙◌, arith, leb-true, nat_eq}
 use Rattle.std.specs.List.{AllByRecursion}
 use Rattle.std.specs.Option.{ForSome, option_eq}
 use Rattle.std.proofs.lemmas.List.{append-nil}

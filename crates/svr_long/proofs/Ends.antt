@@ -1,5 +1,6 @@
 -- How many of the first pairs of a page stand in front of the next one, and the pairs that a buffer has left.
-use Rattle.std.proofs.Common.{◌≡◌, ◌<◌, ◌+◌, ◌-◌, ℕ, zero, suc, Bool, true, false, cond, List, [], ◌∷◌, ◌++◌, take, drop, slice_get, slice_range, Some, refl, sym, ap, subst, ◌∙◌, arith}
+use Rattle.std.proofs.Common.{◌≡◌, ◌<◌, ◌+◌, ◌-◌, ℕ, zero, suc, Bool, true, false, cond, List, [], ◌∷◌, ◌++◌, take, drop, slice_get}
+use Rattle.std.proofs.Common.{slice_range, Some, refl, sym, ap, subst, ◌∙◌, arith}
 use Rattle.std.specs.List.{AllByRecursion}
 use Rattle.svr_iter.specs.MemPairs.{IsPaged, before_trans}
 use Rattle.svr_postpage.specs.Pairs.{first_pair, is_before}

@@ -1,5 +1,6 @@
 -- After one read of a page.
-use Rattle.std.proofs.Common.{◌≡◌, ◌⊎◌, ◌≤◌, ◌+◌, ℕ, List, [], ◌∷◌, take, drop, Option, None, Some, Result, Ok, Err, OnOk, OnErr, IsOk, IsErr, IfErr, refl, sym, ap, subst, ◌∙◌, inr}
+use Rattle.std.proofs.Common.{◌≡◌, ◌⊎◌, ◌≤◌, ◌+◌, ℕ, List, [], ◌∷◌, take, drop, Option, None, Some, Result, Ok, Err, OnOk, OnErr, IsOk}
+use Rattle.std.proofs.Common.{IsErr, IfErr, refl, sym, ap, subst, ◌∙◌, inr}
 use Rattle.std.specs.Option.{option_map}
 use Rattle.svr_edge.specs.Disk.{DiskView, ReadCause, Reads, Stays, traced}
 use Rattle.svr_postpage.specs.declared.page_ref.Damage.TheVariants as damage

@@ -5,7 +5,8 @@ use Rattle.svr_listing.proofs.Visiting.{SoFar-start}
 use Rattle.svr_topk.specs.Scan.{goes_on}
 use Rattle.svr_topk.specs.Top.{Top}
 use Rattle.svr_topk.proofs.Ranking.{IsTop-best, IsTop-nil}
-use Rattle.svr_topk.proofs.Searching.{KeepsPages-more, answers_at_end, asked_at_end, asks_err, given-fault, given-more, goes_on-some, nothing_asked, pages_here, room, room-fits, room-less, so_far-more}
+use Rattle.svr_topk.proofs.Searching.{KeepsPages-more, answers_at_end, asked_at_end, asks_err, given-fault, given-more, goes_on-some}
+use Rattle.svr_topk.proofs.Searching.{nothing_asked, pages_here, room, room-fits, room-less, so_far-more}
 use Rattle.svr_topk.proofs.search.scan.Goals as goal
 
 pub returns-in-Err-clause-asks : goal.returns-in-Err-clause-asks
