@@ -34,7 +34,7 @@ not_there k [] all = refl
 not_there k (x ∷ xs) all =
     let not_same : (x == k) ≡ false = (let lt : x < k = all.0 in grind (arith, nat_tests)) in rw not_same (not_there k xs all.1)
 
-itself : (k : ℕ) (ks : List ℕ) → list_any (λ x. x == k) (k ∷ ks) ≡ true
+pub itself : (k : ℕ) (ks : List ℕ) → list_any (λ x. x == k) (k ∷ ks) ≡ true
 itself k ks = let e : (k == k) ≡ true = grind (arith, nat_tests) in rw e refl
 
 lower : (k j : ℕ) (ks : List ℕ) → k < j → AllByRecursion (λ later. later < k) ks → AllByRecursion (λ later. later < j) ks
