@@ -6,3 +6,4 @@ pub mod NextTerm
 pub mod Placing
 pub mod Searching
 pub mod Telling
+pub mod Told

@@ -28,7 +28,7 @@ use Rattle.svr_num.specs.declared.list_key.ListKey.{ListKey}
 use Rattle.svr_num.specs.declared.mode.Mode.{Mode}
 use Rattle.svr_num.specs.declared.mode.Mode.TheVariants as mode
 use Rattle.svr_index.specs.Index.{Indexed, StandsFor}
-use Rattle.svr_index.specs.Layout.{AreListsOf, TermList, groups_of_list, may_of_list}
+use Rattle.svr_index.specs.Layout.{AnswersByHeads, AreListsOf, TermList, groups_of_list, may_of_list}
 use Rattle.svr_index.specs.Search.{AnswersBy, AreWithinBounds, FindsBest}
 
 -- ---- where documents may come
@@ -116,7 +116,7 @@ groups-any index l bytes terms lists gs are e up stood =
 pub answers-by : (index : Indexed) (terms : List (List ℕ)) (m : Mode) (method : Chosen) (gs : List Group) (k : ℕ) (score : ℕ → Option ℕ)
     (bytes : List ℕ) (hits : List Hit) (visits : ℕ) → method ≡ index.method
     → ((l : Listing) → Ascends (documents_of l) → StandsFor index l → gs ≡ groups_by_bytes (page_pairs bytes) l terms m)
-    → IsAnswer k (chosen_rules method).bound score gs hits visits → AnswersBy index terms m k score bytes hits visits
+    → IsAnswer k (chosen_rules method).bound score gs hits visits → AnswersByHeads index terms m k score bytes hits visits
 answers-by index terms m method gs k score bytes hits visits same groups answer l up stood =
     subst (λ (r : Rules). IsAnswer k r.bound score (groups_by_bytes (page_pairs bytes) l terms m) hits visits)
     (ap chosen_rules same ∙ stood.rules)
@@ -142,12 +142,12 @@ pub page_pairs-hold : (tokens : List ℕ → List (List ℕ)) (bytes : List ℕ)
     → HoldsPosted (page_pairs bytes) l
 page_pairs-hold tokens bytes l is holds t = holds_all bytes (pages_of l.lists t) (is.in_order t) (holds t)
 
-pub best-found : (index : Indexed) (terms : List (List ℕ)) (m : Mode) (k : ℕ) (score : ℕ → Option ℕ) (bytes : List ℕ) (hits : List Hit) (visits : ℕ)
-    → 0 < length terms → AnswersBy index terms m k score bytes hits visits → FindsBest index terms m k score bytes hits
+pub best-found : (index : Indexed) (terms : List (List ℕ)) (m : Mode) (k : ℕ) (score : ℕ → Option ℕ) (bytes : List ℕ) (hits : List Hit)
+    (visits : ℕ) → 0 < length terms → AnswersBy index terms m k score bytes hits visits → FindsBest index terms m k score bytes hits
 best-found index [] m k score bytes hits visits some answer tokens l is stood holds scores = absurd (omega (arith, some))
 best-found index (term ∷ terms) m k score bytes hits visits some answer tokens l is stood holds scores =
     search-is tokens l is k m term terms hits visits
     (subst (λ (f : ℕ → Option ℕ). IsAnswer k l.rules.bound f (groups_of l (term ∷ terms) m) hits visits) (fun_ext scores)
     (subst (λ (gs : List Group). IsAnswer k l.rules.bound score gs hits visits)
-    (groups_by_bytes-is (page_pairs bytes) l (page_pairs-hold tokens bytes l is holds) is.in_order (term ∷ terms) m)
+    (groups_by_bytes-is (pairs_told bytes) l holds is.in_order (term ∷ terms) m)
     (answer l is.documents.ascend stood)))

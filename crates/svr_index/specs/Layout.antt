@@ -1,17 +1,20 @@
 -- Words of private clauses: the lists of single terms that a search goes over.
-use Rattle.std.specs.Prelude.{◌≡◌, ℕ, Bool, List, [], ◌∷◌, ⊤, drop, unwrap_or}
+use Rattle.std.specs.Prelude.{◌≡◌, ℕ, Bool, List, [], ◌∷◌, ⊤, Option, drop, unwrap_or}
 use Rattle.svr_idmap.specs.Ids.{value_at}
 use Rattle.svr_iter.specs.Marks.{is_listed, live_groups}
 use Rattle.svr_iter.specs.MemPairs.{grouped}
 use Rattle.svr_iter.specs.declared.live.Live.{Live}
 use Rattle.svr_listing.specs.Joined.{term_groups}
 use Rattle.svr_listing.specs.Kept.{Ascends}
-use Rattle.svr_listing.specs.Listing.{Listing, documents_of}
+use Rattle.svr_listing.specs.Listing.{Listing, documents_of, groups_by_bytes}
+use Rattle.svr_listing.specs.Visits.{IsAnswer}
 use Rattle.svr_listing.specs.declared.group.Group.{Group}
 use Rattle.svr_listkey.specs.declared.list_keys.ListKeys.{ListKeys}
 use Rattle.svr_long.specs.Cursor.{page_pairs, pages_of_key, pairs_left}
 use Rattle.svr_long.specs.declared.cursor.LongCursor.{LongCursor}
 use Rattle.svr_long.specs.Lists.{pages_at}
+use Rattle.svr_num.specs.declared.hit.Hit.{Hit}
+use Rattle.svr_num.specs.declared.mode.Mode.{Mode}
 use Rattle.svr_postpage.specs.declared.page_ref.PageRef.{PageRef}
 use Rattle.svr_short.specs.Short.{marks_of}
 use Rattle.svr_short.specs.declared.short_lists.ShortLists.{ShortLists}
@@ -49,3 +52,9 @@ AreListsOf index [] [] = ⊤
 AreListsOf index [] (list ∷ lists) = ⊥
 AreListsOf index (term ∷ terms) [] = ⊥
 AreListsOf index (term ∷ terms) (list ∷ lists) = IsListOf index term list × AreListsOf index terms lists
+
+-- the answer to a query by bytes told, where a page that is damaged counts for its first pair alone
+abbrev pub AnswersByHeads : Indexed → List (List ℕ) → Mode → ℕ → (ℕ → Option ℕ) → List ℕ → List Hit → ℕ → Type 0
+AnswersByHeads index terms m k score bytes hits visits =
+    (l : Listing) → Ascends (documents_of l) → StandsFor index l
+    → IsAnswer k l.rules.bound score (groups_by_bytes (page_pairs bytes) l terms m) hits visits

@@ -6,7 +6,6 @@ use Rattle.svr_idmap.specs.Ids.{value_at}
 use Rattle.svr_listing.specs.Kept.{Ascends, HoldsPosted, IsListing}
 use Rattle.svr_listing.specs.Listing.{Listing, documents_of, groups_by_bytes, hit_of, matches, score_in}
 use Rattle.svr_listing.specs.Visits.{IsAnswer}
-use Rattle.svr_long.specs.Cursor.{page_pairs}
 use Rattle.svr_num.specs.Hits.{best_hits}
 use Rattle.svr_num.specs.declared.hit.Hit.{Hit}
 use Rattle.svr_num.specs.declared.mode.Mode.{Mode}
@@ -22,7 +21,7 @@ AreWithinBounds index score =
 abbrev pub AnswersBy : Indexed → List (List ℕ) → Mode → ℕ → (ℕ → Option ℕ) → List ℕ → List Hit → ℕ → Type 0
 AnswersBy index terms m k score bytes hits visits =
     (l : Listing) → Ascends (documents_of l) → StandsFor index l
-    → IsAnswer k l.rules.bound score (groups_by_bytes (page_pairs bytes) l terms m) hits visits
+    → IsAnswer k l.rules.bound score (groups_by_bytes (pairs_told bytes) l terms m) hits visits
 
 -- the hits are the best k of all documents that match, where bytes told hold the posted pairs, and scores are those of the documents
 abbrev pub FindsBest : Indexed → List (List ℕ) → Mode → ℕ → (ℕ → Option ℕ) → List ℕ → List Hit → Type 0
