@@ -1,6 +1,7 @@
 //! Documents by terms, listed by what ranks them: kept as scores and texts change, and searched.
 #![tactic(auto)]
 
+mod entries;
 mod index;
 mod search;
 
