@@ -1,6 +1,7 @@
 ghost use Rattle.std.specs.Prelude.{◌<◌, ◌≤◌, length};
 
 use crate::over_pages::asked::are_within;
+use crate::over_pages::reader::OwnReader;
 use crate::search::Table;
 use std::alloc::Global;
 use svr_edge::{Disk, Memory};
@@ -8,7 +9,7 @@ use svr_fakes::{FlipDisk, MemDisk};
 use svr_index::Index;
 use svr_iter::ScanFault;
 use svr_num::Mode;
-use svr_pages::{Pages, Reader};
+use svr_pages::Pages;
 use svr_postpage::{PAGE_BYTES, PageFault, PageRef, read_page};
 use svr_tokens::Tokens;
 use svr_topk::Answer;
@@ -17,9 +18,11 @@ use svr_topk::Answer;
 /// its bytes may be changed under the cache.
 #[derive(Drop)]
 pub struct Shelf {
-    disk: FlipDisk,
+    reader: OwnReader<FlipDisk>,
     bytes: Vec<u8>,
-    pages: Pages,
+    /// The byte that is given inverted.
+    flipped: Option<u64>,
+    is_changed: bool,
 }
 
 /// The 4,096 bytes from an address on, if there are so many.
@@ -38,10 +41,16 @@ impl Shelf {
     /// A disk of these bytes, with room for so many cached pages.
     pub fn new(alloc: Global, bytes: &[u8], cache: u32) -> Result<Shelf, Memory> {
         let disk = FlipDisk::new(MemDisk::new(bytes.to_vec(alloc)?, Vec::new(alloc)));
-        Ok(Shelf {
-            disk,
-            bytes: bytes.to_vec(alloc)?,
+        let reader = OwnReader {
             pages: Pages::new(alloc, cache)?,
+            disk,
+            reach: 0,
+        };
+        Ok(Shelf {
+            reader,
+            bytes: bytes.to_vec(alloc)?,
+            flipped: None,
+            is_changed: false,
         })
     }
 
@@ -52,14 +61,14 @@ impl Shelf {
 
     /// Appends bytes.
     pub fn append(&mut self, bytes: &[u8]) -> Result<(), Memory> {
-        let Ok(end) = self.disk.len() else {
+        let Ok(end) = self.reader.disk.len() else {
             return Err(Memory);
         };
         if end > 1 << 30 || bytes.len() > 1 << 30 {
             return Err(Memory);
         }
         self.bytes.extend_from_slice(bytes)?;
-        if self.disk.write_at(end, bytes).is_err() {
+        if self.reader.disk.write_at(end, bytes).is_err() {
             return Err(Memory);
         }
         Ok(())
@@ -83,26 +92,42 @@ impl Shelf {
 
     /// Writes one byte, on the disk and in what it is to hold.
     pub fn change(&mut self, at: u64, byte: u8) -> Result<(), Memory> {
-        let Ok(end) = self.disk.len() else {
+        let Ok(end) = self.reader.disk.len() else {
             return Err(Memory);
         };
         if at >= end || end > 1 << 31 || at >= self.bytes.len() as u64 {
             return Err(Memory);
         }
         self.bytes[at as usize] = byte;
-        match self.disk.write_at(at, &[byte]) {
+        self.is_changed = true;
+        match self.reader.disk.write_at(at, &[byte]) {
             Ok(()) => Ok(()),
             Err(_) => Err(Memory),
         }
     }
 
-    /// From now on the disk gives one byte inverted.
-    pub fn flip(&mut self, at: u64) {
+    /// Inverts a byte of what the disk is to hold.
+    fn invert(&mut self, at: u64) {
         if at < self.bytes.len() as u64 {
             let byte = self.bytes[at as usize];
             self.bytes[at as usize] = 255 - byte;
-            self.disk.flip(at, 0);
         }
+    }
+
+    /// From now on the disk gives this byte inverted, and no other.
+    pub fn flip(&mut self, at: u64) {
+        if let Some(before) = self.flipped {
+            self.invert(before);
+        }
+        self.invert(at);
+        self.flipped = Some(at);
+        self.is_changed = true;
+        self.reader.disk.flip(at, 0);
+    }
+
+    /// Whether a byte was changed or inverted since it was appended.
+    pub fn is_changed(&self) -> bool {
+        self.is_changed
     }
 
     /// Searches. `None` where a score is above the bound of its key, which must not be.
@@ -122,15 +147,11 @@ impl Shelf {
         if !are_within(index, scores) {
             return Ok(None);
         }
-        let Ok(reach) = self.disk.len() else {
+        let Ok(reach) = self.reader.disk.len() else {
             return Err(ScanFault::Page(PageFault::Read));
         };
-        let mut reader = Reader {
-            pages: &mut self.pages,
-            disk: &mut self.disk,
-            reach,
-        };
-        let answer = index.search(alloc, terms, mode, k, scores, &mut reader)?;
+        self.reader.reach = reach;
+        let answer = index.search(alloc, terms, mode, k, scores, &mut self.reader)?;
         Ok(Some(answer))
     }
 }

@@ -282,9 +282,49 @@ impl Shop {
         slice_term(alloc, run, term, pages)
     }
 
-    /// Whether no term is left to be sliced.
-    pub fn is_built(&self, alloc: Global) -> Result<bool, Memory> {
-        Ok(self.is_merging() && self.next_term(alloc)?.is_none())
+    /// How many terms are left to be sliced.
+    pub fn left(&self, alloc: Global) -> Result<u64, Memory> {
+        let mut left = 0;
+        let mut after = None;
+        if let Some(run) = &self.run
+            && let Some(last) = run.last()
+        {
+            after = Some(last.copy(alloc)?);
+        }
+        for _ in 0..1000 {
+            match self.plain.next_term(alloc, after.as_ref())? {
+                Some(term) => after = Some(term),
+                None => return Ok(left),
+            }
+            left += 1;
+        }
+        Ok(left)
+    }
+
+    /// The documents under a term, as a text.
+    pub fn under(&mut self, alloc: Global, term: &str) -> Result<String, Stop> {
+        let term = Text::new(alloc, term)?;
+        let ids = self.plain.listing.effective_ids(alloc, &term)?;
+        let mut text = String::new(alloc);
+        for id in &ids {
+            text.push_str(format!(in alloc; "{id},")?.as_str())?;
+        }
+        Ok(text)
+    }
+
+    /// Whether the index lists each document where the plain listing does, and of the first ids no other.
+    pub fn has_entries(&self) -> bool {
+        for listed in self.plain.documents() {
+            if self.index.entry(listed.document.id) != Some(listed.entry) {
+                return false;
+            }
+        }
+        for id in 0..16 {
+            if self.index.entry(id).is_some() != self.plain.document(id).is_some() {
+                return false;
+            }
+        }
+        true
     }
 
     /// Publishes a merge of which no term is left.
