@@ -1,12 +1,13 @@
 -- What a change of one document does to the marks and entries of a listing.
-use Rattle.std.proofs.Common.{◌≡◌, ℕ, ◌==◌, ◌&&◌, ◌||◌, Bool, true, false, not, cond, List, [], ◌∷◌, map, Option, Some, None, option_map, refl, ap, sym, subst, ◌∙◌, eqb-true}
+use Rattle.std.proofs.Common.{◌≡◌, ℕ, ◌==◌, ◌&&◌, ◌||◌, Bool, true, false, not, cond, List, [], ◌∷◌, map, Option, Some, None, option_map}
+use Rattle.std.proofs.Common.{refl, ap, sym, subst, ◌∙◌, eqb-true}
 use Rattle.std.specs.List.{find, list_any}
 use Rattle.std.specs.Str.{bytes_eq}
 use Rattle.svr_num.specs.declared.list_key.ListKey.{ListKey}
 use Rattle.svr_chunks.specs.Chosen.{chosen_rules}
 use Rattle.svr_chunks.specs.declared.chosen.Chosen.{Chosen}
 use Rattle.svr_idmap.specs.Ids.{SetsValue, value_at}
-use Rattle.svr_iter.specs.Effective.{mark_by, mark_here}
+use Rattle.svr_iter.specs.Effective.{mark_here}
 use Rattle.svr_iter.specs.declared.marks.Mark.{Mark}
 use Rattle.svr_iter.specs.declared.marks.Mark.TheVariants as mark
 use Rattle.svr_listing.specs.declared.document.Document.{Document}

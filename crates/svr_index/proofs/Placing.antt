@@ -1,18 +1,13 @@
 -- What an index stands for after a moved document is placed.
-use Rattle.std.proofs.Common.{◌≡◌, ℕ, ◌==◌, ◌&&◌, Bool, true, false, not, cond, List, [], map, Option, Some, None, option_map, unwrap_or, refl, ap, sym, subst, ◌∙◌, eqb-true}
+use Rattle.std.proofs.Common.{◌≡◌, ℕ, ◌==◌, ◌&&◌, Bool, true, false, not, cond, List, Option, Some, None, refl, ap, sym, subst, ◌∙◌, eqb-true}
 use Rattle.svr_chunks.specs.Chosen.{chosen_rules}
-use Rattle.svr_chunks.specs.declared.chosen.Chosen.{Chosen}
 use Rattle.svr_idmap.specs.Ids.{value_at}
 use Rattle.svr_iter.specs.Effective.{mark_here}
-use Rattle.svr_iter.specs.declared.marks.Mark.{Mark}
-use Rattle.svr_listing.specs.declared.document.Document.{Document}
-use Rattle.svr_listing.specs.declared.document.Listed.{Listed}
 use Rattle.svr_listing.specs.Listing.{Listing, document_at, documents_of, entry_of}
 use Rattle.svr_num.specs.declared.list_key.ListKey.{ListKey}
-use Rattle.svr_postpage.specs.declared.page_ref.PageRef.{PageRef}
 use Rattle.svr_index.specs.Index.{Indexed, IsWith, StandsBut, is_moved, mark_by_listing}
 use Rattle.svr_index.proofs.Following.{at, at-before, moved-marks}
-use Rattle.svr_short.specs.Short.{HasMarks, KeepsOthers, Lists, adds_at, mark_in}
+use Rattle.svr_short.specs.Short.{HasMarks, KeepsOthers, adds_at, mark_in}
 use Rattle.svr_tokens.specs.Tokens.{has_term}
 
 -- a moved document has an Add under each of its terms at its key

@@ -1,5 +1,6 @@
 -- A search over the lists of terms answers the query.
-use Rattle.std.proofs.Common.{◌≡◌, ℕ, zero, suc, ◌+◌, ◌-◌, ◌<◌, ◌≤◌, ◌==◌, ◌||◌, Bool, true, false, List, [], ◌∷◌, ◌++◌, length, map, take, drop, slice_range, Option, Some, None, refl, ap, ap₂, sym, subst, ◌∙◌, arith, eqb-true}
+use Rattle.std.proofs.Common.{◌≡◌, ℕ, zero, suc, ◌+◌, ◌-◌, ◌<◌, ◌≤◌, ◌==◌, ◌||◌, Bool, true, false, List, [], ◌∷◌, ◌++◌, length, map, take}
+use Rattle.std.proofs.Common.{drop, slice_range, Option, Some, None, refl, ap, ap₂, sym, subst, ◌∙◌, arith, eqb-true}
 use Rattle.std.specs.List.{AllByRecursion, list_all, list_any, slice_get}
 use Rattle.std.specs.Option.{ForSome, option_map_or}
 use Rattle.std.proofs.lemmas.Bool.{and_parts}
@@ -9,7 +10,7 @@ use Rattle.svr_chunks.specs.declared.chosen.Chosen.{Chosen}
 use Rattle.svr_idmap.specs.Ids.{value_at}
 use Rattle.svr_iter.specs.Marks.{is_listed}
 use Rattle.svr_listing.specs.Joined.{groups_in_all, groups_in_any, term_groups}
-use Rattle.svr_listing.specs.Kept.{AreInOrder, Ascends, BeginsRight}
+use Rattle.svr_listing.specs.Kept.{AreInOrder, Ascends, BeginsRight, HoldsPosted, IsListing}
 use Rattle.svr_listing.specs.declared.pages.Page.{Page}
 use Rattle.svr_listing.specs.Listing.{Listing, documents_of, groups_by_bytes, groups_of, pages_of}
 use Rattle.svr_listing.specs.Methods.{Rules}
@@ -22,7 +23,6 @@ use Rattle.svr_listing.proofs.ByBytes.{groups_by_bytes-is}
 use Rattle.svr_long.specs.Cursor.{or_first, page_pairs}
 use Rattle.svr_postpage.specs.Wanted.{pairs_told}
 use mathlib.Core.Path.{fun_ext}
-use Rattle.svr_match.specs.Joined.{may_in}
 use Rattle.svr_num.specs.declared.hit.Hit.{Hit}
 use Rattle.svr_num.specs.declared.list_key.ListKey.{ListKey}
 use Rattle.svr_num.specs.declared.mode.Mode.{Mode}
@@ -95,31 +95,32 @@ parted terms n term e =
     ∙ ap₂ (λ (front behind : List (List ℕ)). front ++ term ∷ behind) (ap (λ (m : ℕ). take m terms) none)
     (ap (λ (m : ℕ). drop m terms) one ∙ sym (take_all (length terms - (n + 1)) (drop (n + 1) terms) all))
 
-pub answers-all : (index : Indexed) (terms front behind : List (List ℕ)) (term : List ℕ) (list : TermList) (lists : List TermList)
-    (method : Chosen) (gs : List Group) (k : ℕ) (score : ℕ → Option ℕ) (bytes : List ℕ) (hits : List Hit) (visits : ℕ)
-    → terms ≡ front ++ term ∷ behind → AreListsOf index (term ∷ (front ++ behind)) (list ∷ lists) → method ≡ index.method
-    → gs ≡ groups_in_all (map (λ (p : TermList). groups_of_list p bytes) (list ∷ lists))
-    → IsAnswer k (chosen_rules method).bound score gs hits visits → AnswersBy index terms mode.All k score bytes hits visits
-answers-all index terms front behind term list lists method gs k score bytes hits visits parts are same e answer l up stood =
-    let groups : gs ≡ groups_by_bytes (page_pairs bytes) l terms mode.All =
+-- the groups of the lists put together are those of the query
+pub groups-all : (index : Indexed) (l : Listing) (bytes : List ℕ) (terms front behind : List (List ℕ)) (term : List ℕ) (list : TermList)
+    (lists : List TermList) (gs : List Group) → terms ≡ front ++ term ∷ behind → AreListsOf index (term ∷ (front ++ behind)) (list ∷ lists)
+    → gs ≡ groups_in_all (map (λ (p : TermList). groups_of_list p bytes) (list ∷ lists)) → Ascends (documents_of l) → StandsFor index l
+    → gs ≡ groups_by_bytes (page_pairs bytes) l terms mode.All
+groups-all index l bytes terms front behind term list lists gs parts are e up stood =
     e ∙ ap groups_in_all (groups-are index l bytes (term ∷ (front ++ behind)) (list ∷ lists) up stood are)
     ∙ all-joined_by_bytes (page_pairs bytes) l up term (front ++ behind)
     ∙ sym (groups-front (page_pairs bytes) l term front behind mode.All)
-    ∙ ap (λ (ts : List (List ℕ)). groups_by_bytes (page_pairs bytes) l ts mode.All) (sym parts) in
-    subst (λ (r : Rules). IsAnswer k r.bound score (groups_by_bytes (page_pairs bytes) l terms mode.All) hits visits)
-    (ap chosen_rules same ∙ stood.rules)
-    (subst (λ (gs : List Group). IsAnswer k (chosen_rules method).bound score gs hits visits) groups answer)
+    ∙ ap (λ (ts : List (List ℕ)). groups_by_bytes (page_pairs bytes) l ts mode.All) (sym parts)
 
-pub answers-any : (index : Indexed) (terms : List (List ℕ)) (lists : List TermList)
-    (method : Chosen) (gs : List Group) (k : ℕ) (score : ℕ → Option ℕ) (bytes : List ℕ) (hits : List Hit) (visits : ℕ)
-    → AreListsOf index terms lists → method ≡ index.method → gs ≡ groups_in_any (map (λ (p : TermList). groups_of_list p bytes) lists)
-    → IsAnswer k (chosen_rules method).bound score gs hits visits → AnswersBy index terms mode.Any k score bytes hits visits
-answers-any index terms lists method gs k score bytes hits visits are same e answer l up stood =
-    let groups : gs ≡ groups_by_bytes (page_pairs bytes) l terms mode.Any =
-    e ∙ ap groups_in_any (groups-are index l bytes terms lists up stood are) ∙ any-joined_by_bytes (page_pairs bytes) l up terms in
-    subst (λ (r : Rules). IsAnswer k r.bound score (groups_by_bytes (page_pairs bytes) l terms mode.Any) hits visits)
+pub groups-any : (index : Indexed) (l : Listing) (bytes : List ℕ) (terms : List (List ℕ)) (lists : List TermList) (gs : List Group)
+    → AreListsOf index terms lists → gs ≡ groups_in_any (map (λ (p : TermList). groups_of_list p bytes) lists) → Ascends (documents_of l)
+    → StandsFor index l → gs ≡ groups_by_bytes (page_pairs bytes) l terms mode.Any
+groups-any index l bytes terms lists gs are e up stood =
+    e ∙ ap groups_in_any (groups-are index l bytes terms lists up stood are) ∙ any-joined_by_bytes (page_pairs bytes) l up terms
+
+-- so what a search over them answers is the answer
+pub answers-by : (index : Indexed) (terms : List (List ℕ)) (m : Mode) (method : Chosen) (gs : List Group) (k : ℕ) (score : ℕ → Option ℕ)
+    (bytes : List ℕ) (hits : List Hit) (visits : ℕ) → method ≡ index.method
+    → ((l : Listing) → Ascends (documents_of l) → StandsFor index l → gs ≡ groups_by_bytes (page_pairs bytes) l terms m)
+    → IsAnswer k (chosen_rules method).bound score gs hits visits → AnswersBy index terms m k score bytes hits visits
+answers-by index terms m method gs k score bytes hits visits same groups answer l up stood =
+    subst (λ (r : Rules). IsAnswer k r.bound score (groups_by_bytes (page_pairs bytes) l terms m) hits visits)
     (ap chosen_rules same ∙ stood.rules)
-    (subst (λ (gs : List Group). IsAnswer k (chosen_rules method).bound score gs hits visits) groups answer)
+    (subst (λ (gs : List Group). IsAnswer k (chosen_rules method).bound score gs hits visits) (groups l up stood) answer)
 
 pub whole_range : (terms : List (List ℕ)) → slice_range terms 0 (length terms) ≡ terms
 whole_range terms = take_all (length terms - 0) terms (omega arith)
@@ -137,6 +138,10 @@ holds_all bytes [] order all = tt
 holds_all bytes (page ∷ []) order all = (first bytes page order all.0, tt)
 holds_all bytes (page ∷ next ∷ pages) order all = (first bytes page order.0 all.0, holds_all bytes (next ∷ pages) order.2 all.1)
 
+pub page_pairs-hold : (tokens : List ℕ → List (List ℕ)) (bytes : List ℕ) (l : Listing) → IsListing tokens l → HoldsPosted (pairs_told bytes) l
+    → HoldsPosted (page_pairs bytes) l
+page_pairs-hold tokens bytes l is holds t = holds_all bytes (pages_of l.lists t) (is.in_order t) (holds t)
+
 pub best-found : (index : Indexed) (terms : List (List ℕ)) (m : Mode) (k : ℕ) (score : ℕ → Option ℕ) (bytes : List ℕ) (hits : List Hit) (visits : ℕ)
     → 0 < length terms → AnswersBy index terms m k score bytes hits visits → FindsBest index terms m k score bytes hits
 best-found index [] m k score bytes hits visits some answer tokens l is stood holds scores = absurd (omega (arith, some))
@@ -144,5 +149,5 @@ best-found index (term ∷ terms) m k score bytes hits visits some answer tokens
     search-is tokens l is k m term terms hits visits
     (subst (λ (f : ℕ → Option ℕ). IsAnswer k l.rules.bound f (groups_of l (term ∷ terms) m) hits visits) (fun_ext scores)
     (subst (λ (gs : List Group). IsAnswer k l.rules.bound score gs hits visits)
-    (groups_by_bytes-is (page_pairs bytes) l (λ t. holds_all bytes (pages_of l.lists t) (is.in_order t) (holds t)) is.in_order (term ∷ terms) m)
+    (groups_by_bytes-is (page_pairs bytes) l (page_pairs-hold tokens bytes l is holds) is.in_order (term ∷ terms) m)
     (answer l is.documents.ascend stood)))

@@ -1,19 +1,15 @@
 -- An index that stands for a listing tells its terms.
-use Rattle.std.proofs.Common.{◌≡◌, ℕ, ◌==◌, true, List, [], ◌++◌, map, find, unwrap_or, refl, ap, sym, ◌∙◌}
+use Rattle.std.proofs.Common.{◌≡◌, ℕ, true, List, [], map, ap, ◌∙◌}
 use Rattle.svr_idmap.specs.Ids.{value_at}
 use Rattle.svr_iter.specs.Effective.{Tells}
 use Rattle.svr_iter.specs.MemPairs.{IsPaged, grouped}
-use Rattle.svr_listing.specs.Joined.{ids_at, is_in}
 use Rattle.svr_listing.specs.Kept.{Ascends}
 use Rattle.svr_listing.specs.Listing.{Listing, descending, documents_of, has_pair, pages_of, pairs_by}
-use Rattle.svr_listing.specs.declared.group.Group.{Group}
-use Rattle.svr_listing.specs.declared.pages.Page.{Page}
 use Rattle.svr_long.specs.Cursor.{page_pairs, pairs_from}
 use Rattle.svr_long.specs.CursorLaws.{read_told}
 use Rattle.svr_long.specs.Heads.{are_heads, heads}
 use Rattle.svr_long.specs.PagedLaws.{IsPaged-from, IsPaged-left}
 use Rattle.svr_long.proofs.Posted.{ids-grouped, keys-grouped, pairs_from-posted}
-use Rattle.svr_postpage.specs.declared.page_ref.PageRef.{PageRef}
 use Rattle.svr_postpage.specs.declared.pair.Pair.{Pair}
 use Rattle.svr_short.proofs.Marking.{mark_of-marks_of}
 use Rattle.svr_short.specs.Short.{marks_of}

@@ -1,6 +1,5 @@
 -- What an index keeps, and which listing it stands for.
 use Rattle.std.specs.Prelude.{◌≡◌, ℕ, ◌==◌, ◌&&◌, Bool, false, not, List, [], map, find, Option, Some, None, IfSome, IsSome, unwrap_or, if◌then◌else◌}
-use Rattle.std.specs.Option.{ForSome}
 use Rattle.svr_num.specs.declared.list_key.ListKey.{ListKey}
 use Rattle.svr_postpage.specs.declared.page_ref.PageRef.{PageRef}
 use Rattle.svr_chunks.specs.Chosen.{chosen_rules}

@@ -1,3 +1,6 @@
+pub mod Asked
+pub mod Docs
 pub mod Index
 pub mod Layout
 pub mod Search
+pub mod Terms

@@ -52,13 +52,7 @@ impl Index {
     }
 
     /// Lists a document as moved at a key, under these terms alone.
-    fn move_to(
-        &mut self,
-        alloc: Global,
-        id: DocId,
-        key: u64,
-        terms: &Tokens,
-    ) -> Result<(), Memory>
+    fn move_to(&mut self, alloc: Global, id: DocId, key: u64, terms: &Tokens) -> Result<(), Memory>
         requires id { id < 2 ^ 63 }
         requires key { key < 2 ^ 48 }
         ensures method { self.new.method ≡ self.old.method }
@@ -162,12 +156,7 @@ impl Index {
     }
 
     /// Places a moved document under its terms.
-    pub fn place_moved(
-        &mut self,
-        alloc: Global,
-        id: DocId,
-        terms: &Tokens,
-    ) -> Result<(), Memory>
+    pub fn place_moved(&mut self, alloc: Global, id: DocId, terms: &Tokens) -> Result<(), Memory>
         requires id { id < 2 ^ 63 }
         requires moved { is_moved (value_at self.old.entries id) ≡ true }
         ensures { OnOk result (Places self.old self.new id terms.now) }

@@ -2,6 +2,7 @@ ghost use Rattle.std.specs.Prelude.{◌≡◌, ◌<◌, ◌≤◌, ◌++◌, ℕ
 ghost use Rattle.std.specs.Option.{ForSome};
 ghost use Rattle.svr_iter.specs.Reader.{KeepsReader};
 ghost use Rattle.svr_num.specs.declared.mode.Mode.TheVariants as mode;
+ghost use Rattle.svr_index.specs.Asked.{AsksFor};
 ghost use Rattle.svr_index.specs.Search.{AnswersBy, AreWithinBounds, FindsBest};
 ghost use Rattle.svr_index.specs.Layout.{AreListsOf, IsListOf};
 
@@ -18,10 +19,13 @@ use svr_short::ShortLists;
 use svr_tokens::Tokens;
 use svr_topk::{Answer, scan};
 
-
 impl Index {
     /// The documents of one term, key by key.
-    fn list_of<'a>(&'a self, alloc: Global, term: &'a Text) -> Live<'a, LongCursor<'a>, ShortLists, ListKeys>
+    pub(crate) fn list_of<'a>(
+        &'a self,
+        alloc: Global,
+        term: &'a Text,
+    ) -> Live<'a, LongCursor<'a>, ShortLists, ListKeys>
         ensures { IsListOf self.now term.now result }
     {
         let long = LongCursor::new(self.long.pages(term));
@@ -81,6 +85,8 @@ impl Index {
         requires bounded { AreWithinBounds self.now (S.score_of scores.now) }
         ensures answer { IfOk result (λ answer. ForSome (R.told reader.old) (λ bytes.
             AnswersBy self.now terms.now mode.All k (S.score_of scores.now) bytes answer.hits answer.groups)) }
+        ensures asks { AsksFor (R.told reader.old) R.gives R.fails self.now terms.now mode.All k (S.score_of scores.now)
+            reader.old reader.new result }
         ensures reader { KeepsReader R.told R.ready R.faults reader.old reader.new result }
     {
         let rarest = self.rarest(terms);
@@ -108,6 +114,8 @@ impl Index {
         requires bounded { AreWithinBounds self.now (S.score_of scores.now) }
         ensures answer { IfOk result (λ answer. ForSome (R.told reader.old) (λ bytes.
             AnswersBy self.now terms.now mode.Any k (S.score_of scores.now) bytes answer.hits answer.groups)) }
+        ensures asks { AsksFor (R.told reader.old) R.gives R.fails self.now terms.now mode.Any k (S.score_of scores.now)
+            reader.old reader.new result }
         ensures reader { KeepsReader R.told R.ready R.faults reader.old reader.new result }
     {
         let mut lists = Vec::new(alloc);
@@ -138,6 +146,8 @@ impl Index {
             AnswersBy self.now terms.now mode k (S.score_of scores.now) bytes answer.hits answer.groups)) }
         ensures best { IfOk result (λ answer. ForSome (R.told reader.old) (λ bytes.
             FindsBest self.now terms.now mode k (S.score_of scores.now) bytes answer.hits)) }
+        ensures asks { AsksFor (R.told reader.old) R.gives R.fails self.now terms.now mode k (S.score_of scores.now)
+            reader.old reader.new result }
         ensures reader { KeepsReader R.told R.ready R.faults reader.old reader.new result }
     {
         match mode {

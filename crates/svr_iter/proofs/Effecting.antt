@@ -248,7 +248,7 @@ add_there id (m ∷ ms) e = one (m.id == id) e (add_there id ms)
     one true f rest = let same : m.mark ≡ mark.Add = cc in or_left _ _ (ap is_add same)
     one false f rest = or_right _ _ (rest f)
 
-found_any : (p q : Listed → Bool) (ds : List Listed) (d : Listed) → find p ds ≡ Some d → q d ≡ true → list_any q ds ≡ true
+pub found_any : (p q : Listed → Bool) (ds : List Listed) (d : Listed) → find p ds ≡ Some d → q d ≡ true → list_any q ds ≡ true
 found_any p q [] d e f = absurd (cc)
 found_any p q (x ∷ xs) d e f = one (p x) e (found_any p q xs d)
   where
@@ -257,7 +257,7 @@ found_any p q (x ∷ xs) d e f = one (p x) e (found_any p q xs d)
     one true g rest = let same : x ≡ d = cc in or_left _ _ (ap q same ∙ f)
     one false g rest = or_right _ _ (rest g f)
 
-any_found : (q : Listed → Bool) (ds : List Listed) → Up (map (λ (d : Listed). d.document.id) ds) → list_any q ds ≡ true
+pub any_found : (q : Listed → Bool) (ds : List Listed) → Up (map (λ (d : Listed). d.document.id) ds) → list_any q ds ≡ true
     → (d : Listed) × (find (λ e. e.document.id == d.document.id) ds ≡ Some d) × (q d ≡ true) ×
     ((P : ℕ → Type 0) → AllByRecursion P (map (λ (e : Listed). e.document.id) ds) → P d.document.id)
 any_found q [] up e = absurd (cc)
@@ -275,7 +275,7 @@ any_found q (x ∷ xs) up e = one (q x) refl e (any_found q xs up.1)
         (r.0, rw (eq_less x.document.id r.0.document.id above) r.1, r.2, λ P all. r.3 P all.1)
 
 -- the marks at a key, by the documents: an Add is that of a held one
-add_held : (l : Listing) (term : List ℕ) (n : ℕ) (o : Option Listed) → mark_here l term n o ≡ Some mark.Add
+pub add_held : (l : Listing) (term : List ℕ) (n : ℕ) (o : Option Listed) → mark_here l term n o ≡ Some mark.Add
     → (d : Listed) × (o ≡ Some d) × ((is_held l term d && (d.entry.key == n)) ≡ true)
 add_held l term n None e = absurd (cc)
 add_held l term n (Some d) e = (d, refl, one (d.entry.key == n) (is_held l term d) (is_removed l term d) e)
@@ -286,7 +286,7 @@ add_held l term n (Some d) e = (d, refl, one (d.entry.key == n) (is_held l term 
     one true false false f = absurd (cc)
     one false b r f = absurd (cc)
 
-held_add : (l : Listing) (term : List ℕ) (n : ℕ) (d : Listed) → (is_held l term d && (d.entry.key == n)) ≡ true
+pub held_add : (l : Listing) (term : List ℕ) (n : ℕ) (d : Listed) → (is_held l term d && (d.entry.key == n)) ≡ true
     → mark_here l term n (Some d) ≡ Some mark.Add
 held_add l term n d e = one (is_held l term d) (d.entry.key == n) e
   where

@@ -2,7 +2,7 @@
 use Rattle.std.proofs.Common.{◌≡◌, ℕ, zero, suc, ◌+◌, ◌<◌, ◌≤◌, ◌^◌, Bool, List, [], ◌∷◌, length, get_or, drop, Option, Some, None, unwrap_or, refl, ap, sym, subst, ◌∙◌, arith, add-one}
 use Rattle.std.specs.List.{AllByRecursion}
 use Rattle.std.specs.Option.{IsSome}
-use Rattle.svr_listing.specs.Groups.{AreGroups, Descends, IsGroup, IsOrdered, first_key}
+use Rattle.svr_listing.specs.Groups.{AreGroups, Descends, IsGroup, first_key}
 use Rattle.svr_listing.specs.declared.group.Group.{Group}
 use Rattle.svr_iter.specs.Taking.{IsLess, TakesGroup}
 

@@ -1,3 +1,4 @@
+pub mod Asked
 pub mod Effective
 pub mod GroupLaws
 pub mod KeyLaws

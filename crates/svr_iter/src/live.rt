@@ -1,6 +1,6 @@
 ghost use Rattle.std.specs.Prelude.{◌≡◌, ◌<◌, ◌^◌, ◌∷◌, [], ℕ, List, OnOk, None, Some, if◌then◌else◌};
 ghost use Rattle.svr_postpage.specs.declared.page_ref.PageRef.{PageRef};
-ghost use Rattle.svr_postpage.specs.Reading.{Asks};
+ghost use Rattle.svr_iter.specs.Asked.{Asks};
 ghost use Rattle.svr_listing.specs.Joined.{term_groups};
 ghost use Rattle.svr_listing.specs.Listing.{Listing};
 ghost use Rattle.svr_postpage.specs.declared.pair.Pair.{Pair};
@@ -41,7 +41,7 @@ fn take_posted<L: LongSource, R: PageReader>(
     requires fits { key < 2 ^ 48 }
     requires ready { R.ready reader.old }
     ensures takes { OnOk result (TakesAt L.groups L.next (λ _. every) L.pages (R.told reader.old) key long.old long.new ids.new.items) }
-    ensures asks { Asks R.asked (L.pages long.old key) reader.old reader.new result }
+    ensures asks { Asks R.gives R.fails (L.pages long.old key) reader.old reader.new result }
     ensures reader { KeepsReader R.told R.ready R.faults reader.old reader.new result }
 {
     if long.next_key() == Some(key) {

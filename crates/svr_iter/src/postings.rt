@@ -1,7 +1,7 @@
 ghost use Rattle.std.specs.Prelude.{◌≡◌, ◌<◌, ◌^◌, ℕ, List, Option, Bool, Some, [], OnOk, IsSome, IfSome, unwrap_or};
 ghost use Rattle.std.specs.List.Sorted.{IsStrictlyIncreasing};
 ghost use Rattle.svr_postpage.specs.declared.page_ref.PageRef.{PageRef};
-ghost use Rattle.svr_postpage.specs.Reading.{Asks};
+ghost use Rattle.svr_iter.specs.Asked.{Asks};
 ghost use Rattle.svr_listing.specs.Groups.{AreGroups};
 ghost use Rattle.svr_listing.specs.declared.group.Group.{Group};
 ghost use Rattle.svr_iter.specs.Reader.{KeepsReader};
@@ -41,7 +41,7 @@ pub trait Postings {
         requires ready { R.ready reader.old }
         requires some { IsSome (next self.old) }
         ensures takes { OnOk result (TakesGroup groups next may pages (R.told reader.old) self.old self.new ids.new.items) }
-        ensures asks { Asks R.asked (pages self.old (unwrap_or (next self.old) 0)) reader.old reader.new result }
+        ensures asks { Asks R.gives R.fails (pages self.old (unwrap_or (next self.old) 0)) reader.old reader.new result }
         ensures reader { KeepsReader R.told R.ready R.faults reader.old reader.new result };
 
     /// Takes the first group away and leaves in `ids` those of them that it has. It asks for the same pages.
@@ -55,7 +55,7 @@ pub trait Postings {
         requires some { IsSome (next self.old) }
         requires ascending { IsStrictlyIncreasing ids.old.items }
         ensures keeps { OnOk result (KeepsGroup groups next may pages (R.told reader.old) self.old self.new ids.old.items ids.new.items) }
-        ensures asks { Asks R.asked (pages self.old (unwrap_or (next self.old) 0)) reader.old reader.new result }
+        ensures asks { Asks R.gives R.fails (pages self.old (unwrap_or (next self.old) 0)) reader.old reader.new result }
         ensures reader { KeepsReader R.told R.ready R.faults reader.old reader.new result };
 
     ghost lawful: { (self : Self) (bytes : List ℕ) → AreGroups (may self) (next self) (groups self bytes) };

@@ -1,7 +1,7 @@
 ghost use Rattle.std.specs.Prelude.{◌≡◌, ◌<◌, ◌^◌, ℕ, List, Option, Some, [], OnOk, IsSome, IfSome, unwrap_or};
 ghost use Rattle.svr_num.specs.declared.list_key.ListKey.{ListKey};
 ghost use Rattle.svr_postpage.specs.declared.page_ref.PageRef.{PageRef};
-ghost use Rattle.svr_postpage.specs.Reading.{Asks};
+ghost use Rattle.svr_iter.specs.Asked.{Asks};
 ghost use Rattle.svr_listing.specs.Groups.{AreGroups};
 ghost use Rattle.svr_listing.specs.declared.group.Group.{Group};
 ghost use Rattle.svr_iter.specs.Marks.{AreMarks, MarksAt, every, marks_at, next_add};
@@ -41,7 +41,7 @@ pub trait LongSource {
         requires ready { R.ready reader.old }
         requires some { IsSome (next self.old) }
         ensures takes { OnOk result (TakesGroup groups next (λ _. every) pages (R.told reader.old) self.old self.new ids.new.items) }
-        ensures asks { Asks R.asked (pages self.old (unwrap_or (next self.old) 0)) reader.old reader.new result }
+        ensures asks { Asks R.gives R.fails (pages self.old (unwrap_or (next self.old) 0)) reader.old reader.new result }
         ensures reader { KeepsReader R.told R.ready R.faults reader.old reader.new result };
 
     ghost lawful: { (self : Self) (bytes : List ℕ) → AreGroups every (next self) (groups self bytes) };

@@ -2,12 +2,12 @@
 use Rattle.std.proofs.Common.{◌≡◌, ℕ, ◌<◌, ◌==◌, ◌&&◌, ◌||◌, Bool, true, false, List, [], ◌∷◌, ◌++◌, map, refl, ap, sym, subst, ◌∙◌, arith, eqb-true, ltb-true, nat_lt}
 use Rattle.std.proofs.lemmas.Bool.Decides.{nat_tests}
 use mathlib.Core.Path.{fun_ext}
-use Rattle.std.specs.List.{AllByRecursion, filter, flat_map, list_all, list_any}
+use Rattle.std.specs.List.{AllByRecursion, flat_map, list_all, list_any}
 use Rattle.svr_num.specs.declared.mode.Mode.{Mode}
 use Rattle.svr_num.specs.declared.mode.Mode.TheVariants as mode
 use Rattle.svr_postpage.specs.declared.page_ref.PageRef.{PageRef}
 use Rattle.svr_postpage.specs.declared.pair.Pair.{Pair}
-use Rattle.svr_listing.specs.Listing.{Listed, Listing, descending, groups_by, groups_by_bytes, held, keys_by, pages_of, pairs_by, stands_by, stands_under}
+use Rattle.svr_listing.specs.Listing.{Listed, Listing, groups_by, groups_by_bytes, held, keys_by, pages_of, pairs_by, stands_by, stands_under}
 use Rattle.svr_listing.proofs.Answering.{Falls, any-descending, falls-descending}
 use Rattle.svr_listing.proofs.Truths.{any-flat_map, or_turn}
 

@@ -12,7 +12,7 @@ use Rattle.std.specs.BTreeMap.Range.{entries_between}
 use Rattle.std.specs.declared.ops.Bound.TheVariants as bound
 use Rattle.svr_listing.specs.Merges.{by_bytes}
 use Rattle.svr_long.specs.Layout.{behind}
-use Rattle.svr_long.specs.Lists.{SetsPages, page_count, pages_at, term_after}
+use Rattle.svr_long.specs.Lists.{HavePages, SetsPages, page_count, pages_at, term_after}
 
 -- a look-up by the order of bytes finds what one by their equality does
 pub lookup-by_order : (term : List ℕ) (lists : List (List ℕ × List PageRef))
@@ -90,3 +90,18 @@ pub found-none : (lists : List (List ℕ × List PageRef)) (term : List ℕ) →
     → IsSome (pages_at lists term) → 0 < 0
 found-none lists term e is =
     let no : IsSome {T = List PageRef} None = subst IsSome (sym (e ∙ lookup-by_order term lists)) is in absurd (cc)
+
+-- a term more, with a page
+pub have_pages : (old new : List (List ℕ × List PageRef)) (term : List ℕ) (pages : List PageRef) → HavePages old
+    → SetsPages old new term pages → 0 < length pages → HavePages new
+have_pages old new term pages had sets some t =
+    by (bytes_eq term t) (sets t)
+  where
+    both : (o : Option (List PageRef)) → pages_at new t ≡ o → (IsSome o → 0 < length (unwrap_or o [])) → IsSome (pages_at new t)
+        → 0 < length (unwrap_or (pages_at new t) [])
+    both o e h is = subst (λ (x : Option (List PageRef)). 0 < length (unwrap_or x [])) (sym e) (h (subst IsSome e is))
+
+    by : (b : Bool) → pages_at new t ≡ cond b (Some pages) (pages_at old t) → IsSome (pages_at new t)
+        → 0 < length (unwrap_or (pages_at new t) [])
+    by true e = both (Some pages) e (λ _. some)
+    by false e = both (pages_at old t) e (had t)

@@ -2,24 +2,28 @@
 use Rattle.std.proofs.Common.{◌≡◌, ◌<◌, ◌≤◌, ◌+◌, ◌*◌, ◌^◌, ◌==◌, ℕ, Bool, true, false, cond, List, [], ◌∷◌, ◌++◌, length, Option, Some, unwrap_or, Ok, Err, refl, sym, ap, subst, ◌∙◌, arith, leb-true, nat_eq}
 use Rattle.std.specs.List.{AllByRecursion}
 use Rattle.std.specs.Option.{ForSome, option_eq}
-use Rattle.std.proofs.lemmas.List.{append_assoc, append-nil}
+use Rattle.std.proofs.lemmas.List.{append-nil}
 use Rattle.svr_iter.specs.MemPairs.{IsPaged, before_high, grouped, in_range}
+use Rattle.svr_iter.specs.declared.fault.ScanFault.{ScanFault}
+use Rattle.svr_iter.specs.declared.fault.ScanFault.TheVariants as scan
+use Rattle.svr_iter.specs.Asked.{Asks}
 use Rattle.svr_iter.specs.GroupLaws.{to_all}
 use Rattle.svr_iter.specs.Marks.{every}
 use Rattle.svr_iter.specs.Merging.{Above, Up, Up-to}
 use Rattle.svr_iter.specs.Taking.{IsLess}
 use Rattle.svr_iter.specs.Truths.{and_left, and_right, by_order, eq_false, eq_more, eq_self, eq_true}
-use Rattle.svr_iter.proofs.Asking.{InTurn-append}
+use Rattle.svr_iter.proofs.Asking.{asks_all, asks_memory}
 use Rattle.svr_iter.proofs.MemRun.{front, front-end}
 use Rattle.svr_listing.specs.Groups.{IsGroup}
 use Rattle.svr_postpage.specs.Pairs.{fill_a_page}
-use Rattle.svr_postpage.specs.Reading.{Asks, InTurn}
+use Rattle.svr_postpage.specs.Reading.{InTurn}
+use Rattle.svr_postpage.specs.declared.page_ref.PageFault.{PageFault}
 use Rattle.svr_postpage.specs.declared.page_ref.PageRef.{PageRef}
 use Rattle.svr_postpage.specs.declared.pair.Pair.{Pair}
 use Rattle.svr_long.specs.Cursor.{first_key_of, is_ahead, kept, pages_of_key, pairs_left}
 use Rattle.svr_long.specs.CursorLaws.{all-less, first_key-left, none-of_key, read_told}
 use Rattle.svr_long.specs.Heads.{are_paged, heads}
-use Rattle.svr_long.specs.Layout.{AsksOne, Steps}
+use Rattle.svr_long.specs.Layout.{StepFails, Steps}
 use Rattle.svr_long.specs.PagedLaws.{Behind, IsPaged-behind}
 use Rattle.svr_long.proofs.Running.{Run, at_key}
 
@@ -78,10 +82,10 @@ other_front key k (x ∷ xs) ys lt all =
     ap (λ (b : Bool). cond b (x ∷ pages_of_key k (xs ++ ys)) (pages_of_key k (xs ++ ys))) (eq_more k x.key more)
     ∙ other_front key k xs ys lt all.1
 
-module _ {R : Type 0} (asked : R → PageRef → R → Type 0) (told : Option (List ℕ)) (key : ℕ) (ps0 : List Pair) (pages0 : List PageRef) (r0 : R)
+module _ {R : Type 0} (gives : R → PageRef → R → Type 0) (told : Option (List ℕ)) (key : ℕ) (ps0 : List Pair) (pages0 : List PageRef) (r0 : R)
     (ps : List Pair) (pages : List PageRef) (ids : List ℕ) (r : R)
     (paged : are_paged (ps0 ++ heads pages0) ≡ true) (first : first_key_of (ps0 ++ heads pages0) ≡ Some key)
-    (run : Run asked told key ps0 pages0 r0 ps pages ids r) where
+    (run : Run gives told key ps0 pages0 r0 ps pages ids r) where
   next_is : unwrap_or (first_key_of (ps0 ++ heads pages0)) 0 ≡ key
   next_is = ap (λ (o : Option ℕ). unwrap_or o 0) first
 
@@ -115,21 +119,19 @@ module _ {R : Type 0} (asked : R → PageRef → R → Type 0) (told : Option (L
     pub Run-less : IsLess (first_key_of (ps ++ heads pages)) (first_key_of (ps0 ++ heads pages0))
     Run-less = subst (IsLess (first_key_of (ps ++ heads pages))) (sym first) less
 
-    pub Run-asks : {T E : Type 0} (value : T)
-        → Asks {R = R} {T = T} {E = E} asked (pages_of_key (unwrap_or (first_key_of (ps0 ++ heads pages0)) 0) pages0) r0 r (Ok value)
-    Run-asks value =
+    pub Run-asks : {T : Type 0} (fails : R → PageRef → PageFault → R → Type 0) (value : T)
+        → Asks {R = R} {T = T} gives fails (pages_of_key (unwrap_or (first_key_of (ps0 ++ heads pages0)) 0) pages0) r0 r (Ok value)
+    Run-asks {T} fails value =
         let h : IsPaged (ps ++ heads pages) = IsPaged-behind (at_key key ids) (ps ++ heads pages) run.order in
         let none : pages_of_key key pages ≡ [] =
         none-of_key key pages (less_heads key ps (heads pages) (all-less key (ps ++ heads pages) h less)) in
-        record {
-          asked_for = run.front_pages;
-          in_turn = run.in_turn;
-          are_these =
-              sym (append-nil run.front_pages) ∙ ap (λ (l : List PageRef). run.front_pages ++ l) (sym none)
-              ∙ sym (own_front key run.front_pages pages run.of_key)
-              ∙ ap (pages_of_key key) run.are_front
-              ∙ ap (λ (k : ℕ). pages_of_key k pages0) (sym next_is);
-        }
+        let all : run.front_pages ≡ pages_of_key (unwrap_or (first_key_of (ps0 ++ heads pages0)) 0) pages0 =
+        sym (append-nil run.front_pages) ∙ ap (λ (l : List PageRef). run.front_pages ++ l) (sym none)
+        ∙ sym (own_front key run.front_pages pages run.of_key)
+        ∙ ap (pages_of_key key) run.are_front
+        ∙ ap (λ (k : ℕ). pages_of_key k pages0) (sym next_is) in
+        asks_all {R = R} gives fails {T = T} (pages_of_key (unwrap_or (first_key_of (ps0 ++ heads pages0)) 0) pages0) r0 r value
+        (subst (λ (l : List PageRef). InTurn gives l r0 r) all run.in_turn)
 
   -- a step that failed
   all_asked : pages_of_key (unwrap_or (first_key_of (ps0 ++ heads pages0)) 0) pages0 ≡ run.front_pages ++ pages_of_key key pages
@@ -137,36 +139,45 @@ module _ {R : Type 0} (asked : R → PageRef → R → Type 0) (told : Option (L
       ap (λ (k : ℕ). pages_of_key k pages0) next_is ∙ ap (pages_of_key key) (sym run.are_front)
       ∙ own_front key run.front_pages pages run.of_key
 
-  pub Run-fault : {T E : Type 0} (f : E) (r' : R) → first_key_of (ps ++ heads pages) ≡ Some key → AsksOne asked ps pages r r'
-      → Asks {R = R} {T = T} {E = E} asked (pages_of_key (unwrap_or (first_key_of (ps0 ++ heads pages0)) 0) pages0) r0 r' (Err f)
-  Run-fault {T} {E} f r' here one = by ps pages here one all_asked
-    where
-      none : r' ≡ r → (rest : List PageRef) → pages_of_key (unwrap_or (first_key_of (ps0 ++ heads pages0)) 0) pages0 ≡ run.front_pages ++ rest
-          → Asks {R = R} {T = T} {E = E} asked (pages_of_key (unwrap_or (first_key_of (ps0 ++ heads pages0)) 0) pages0) r0 r' (Err f)
-      none same rest all = record {
-        asked_for = run.front_pages;
-        in_turn = subst (λ (x : R). InTurn asked run.front_pages r0 x) (sym same) run.in_turn;
-        are_these = (rest, sym all);
-      }
+  module _ {T : Type 0} (fails : R → PageRef → PageFault → R → Type 0) where
+    -- where memory is wanting
+    no_memory : (r' : R) → r' ≡ r
+        → Asks {R = R} {T = T} gives fails (pages_of_key (unwrap_or (first_key_of (ps0 ++ heads pages0)) 0) pages0) r0 r' (Err scan.Memory)
+    no_memory r' same =
+        asks_memory {R = R} gives fails {T = T} run.front_pages (pages_of_key key pages) _ r0 r'
+        (subst (λ (x : R). InTurn gives run.front_pages r0 x) (sym same) run.in_turn) (sym all_asked)
 
-      by : (qs : List Pair) (rest : List PageRef) → first_key_of (qs ++ heads rest) ≡ Some key → AsksOne asked qs rest r r'
-          → pages_of_key (unwrap_or (first_key_of (ps0 ++ heads pages0)) 0) pages0 ≡ run.front_pages ++ pages_of_key key rest
-          → Asks {R = R} {T = T} {E = E} asked (pages_of_key (unwrap_or (first_key_of (ps0 ++ heads pages0)) 0) pages0) r0 r' (Err f)
-      by (q ∷ qs) rest e asks all = none asks (pages_of_key key rest) all
-      by [] [] e asks all = none asks [] all
-      by [] (page ∷ rest) e asks all =
-          let same : page.key ≡ key = cc in
-          let front : pages_of_key key (page ∷ rest) ≡ page ∷ pages_of_key key rest =
-          ap (λ (b : Bool). cond b (page ∷ pages_of_key key rest) (pages_of_key key rest)) (eq_true page.key key same) in
-          record {
-            asked_for = run.front_pages ++ page ∷ [];
-            in_turn = InTurn-append asked run.front_pages (page ∷ []) r0 r r' run.in_turn (r', asks, refl);
-            are_these = (
-              pages_of_key key rest,
-              append_assoc run.front_pages (page ∷ []) (pages_of_key key rest)
-                  ∙ ap (λ (l : List PageRef). run.front_pages ++ l) (sym front) ∙ sym all,
-            );
-          }
+    -- where the next page comes to a fault
+    no_page : (page : PageRef) (rest : List PageRef) (why : PageFault) (r' : R) → pages ≡ page ∷ rest → page.key ≡ key
+        → fails r page why r'
+        → Asks {R = R} {T = T} gives fails (pages_of_key (unwrap_or (first_key_of (ps0 ++ heads pages0)) 0) pages0) r0 r' (Err (scan.Page why))
+    no_page page rest why r' are same failed =
+        let front : pages_of_key key (page ∷ rest) ≡ page ∷ pages_of_key key rest =
+        ap (λ (b : Bool). cond b (page ∷ pages_of_key key rest) (pages_of_key key rest)) (eq_true page.key key same) in
+        record {
+          given = run.front_pages;
+          left = page ∷ pages_of_key key rest;
+          between = r;
+          are_these = ap (λ (l : List PageRef). run.front_pages ++ l) (sym front ∙ ap (pages_of_key key) (sym are)) ∙ sym all_asked;
+          in_turn = run.in_turn;
+          stops = failed;
+        }
+
+    pub Run-fault : (f : ScanFault) (r' : R) → first_key_of (ps ++ heads pages) ≡ Some key → StepFails fails ps pages r r' f
+        → Asks {R = R} {T = T} gives fails (pages_of_key (unwrap_or (first_key_of (ps0 ++ heads pages0)) 0) pages0) r0 r' (Err f)
+    Run-fault f r' here failed = by ps pages f refl here failed
+      where
+        by : (qs : List Pair) (rest : List PageRef) (e : ScanFault) → pages ≡ rest → first_key_of (qs ++ heads rest) ≡ Some key
+            → StepFails fails qs rest r r' e
+            → Asks {R = R} {T = T} gives fails (pages_of_key (unwrap_or (first_key_of (ps0 ++ heads pages0)) 0) pages0) r0 r' (Err e)
+        by (q ∷ qs) rest e are first' failed' =
+            subst (λ (x : ScanFault). Asks {R = R} {T = T} gives fails
+            (pages_of_key (unwrap_or (first_key_of (ps0 ++ heads pages0)) 0) pages0) r0 r' (Err x)) (sym failed'.0) (no_memory r' failed'.1)
+        by [] [] e are first' failed' = absurd failed'
+        by [] (page ∷ rest) scan.Memory are first' failed' = absurd failed'
+        by [] (page ∷ rest) (scan.Page why) are first' failed' =
+            let same : page.key ≡ key = cc in
+            no_page page rest why r' are same failed'
 
 -- ---- each step leaves less
 
@@ -181,15 +192,15 @@ few_kept pages (p ∷ ps) = by (is_ahead pages p) (few_kept pages ps)
 few_from : (n : ℕ) (ps : List Pair) → fill_a_page ps ≡ true → length ps ≤ 255
 few_from n ps e = leb-true (length ps) 255 (and_left _ _ (and_right _ _ e))
 
-pub Steps-less : {R : Type 0} (asked : R → PageRef → R → Type 0) (told : Option (List ℕ)) (ps ps' : List Pair) (pages pages' : List PageRef)
-    (ids ids' : List ℕ) (r r' : R) → Steps asked told ps pages ps' pages' ids ids' r r'
+pub Steps-less : {R : Type 0} (gives : R → PageRef → R → Type 0) (told : Option (List ℕ)) (ps ps' : List Pair) (pages pages' : List PageRef)
+    (ids ids' : List ℕ) (r r' : R) → Steps gives told ps pages ps' pages' ids ids' r r'
     → 256 * length pages' + length ps' < 256 * length pages + length ps
-Steps-less asked told [] ps' [] pages' ids ids' r r' steps = absurd steps
-Steps-less asked told (p ∷ ps) ps' pages pages' ids ids' r r' steps =
+Steps-less gives told [] ps' [] pages' ids ids' r r' steps = absurd steps
+Steps-less gives told (p ∷ ps) ps' pages pages' ids ids' r r' steps =
     let a : length ps' ≡ length ps = ap (λ (l : List Pair). length l) steps.0 in
     let b : length pages' ≡ length pages = ap (λ (l : List PageRef). length l) steps.1 in
     omega (arith, a, b)
-Steps-less asked told [] ps' (page ∷ pages) pages' ids ids' r r' steps =
+Steps-less gives told [] ps' (page ∷ pages) pages' ids ids' r r' steps =
     let reads = steps.0 in
     let a : length ps' ≡ length (kept pages reads.pairs) = ap (λ (l : List Pair). length l) reads.left in
     let b : length pages' ≡ length pages = ap (λ (l : List PageRef). length l) steps.1 in

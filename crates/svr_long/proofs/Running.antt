@@ -84,7 +84,7 @@ begin-read told page pages after h reads =
 abbrev pub at_key : ℕ → List ℕ → List Pair
 at_key key ids = map (λ id. record { key = key; id = id }) ids
 
-pub record Run {R : Type 0} (asked : R → PageRef → R → Type 0) (told : Option (List ℕ)) (key : ℕ)
+pub record Run {R : Type 0} (gives : R → PageRef → R → Type 0) (told : Option (List ℕ)) (key : ℕ)
     (pairs_before : List Pair) (pages_before : List PageRef) (before : R)
     (pairs : List Pair) (pages : List PageRef) (ids : List ℕ) (now : R) : Type 0 where
   pub groups : ForSome told (λ bytes. front key ids (grouped (pairs_left bytes pairs pages)) ≡ grouped (pairs_left bytes pairs_before pages_before))
@@ -93,7 +93,7 @@ pub record Run {R : Type 0} (asked : R → PageRef → R → Type 0) (told : Opt
   pub front_pages : List PageRef
   pub of_key : AllByRecursion (λ (page : PageRef). page.key ≡ key) front_pages
   pub are_front : front_pages ++ pages ≡ pages_before
-  pub in_turn : InTurn asked front_pages before now
+  pub in_turn : InTurn gives front_pages before now
 
 start_at : (key : ℕ) (qs : List Pair) → first_key_of qs ≡ Some key → front key [] (grouped qs) ≡ grouped qs
 start_at key [] e = absurd (cc)
@@ -107,10 +107,10 @@ low_from key (p ∷ ps) h e =
     let same : p.key ≡ key = cc in
     subst (λ (k : ℕ). AllByRecursion (λ (q : Pair). q.key ≤ k) (p ∷ ps)) same (omega arith, low-behind p ps h.1.0)
 
-pub Run-start : {R : Type 0} (asked : R → PageRef → R → Type 0) (told : Option (List ℕ)) (key : ℕ) (ps : List Pair) (pages : List PageRef)
+pub Run-start : {R : Type 0} (gives : R → PageRef → R → Type 0) (told : Option (List ℕ)) (key : ℕ) (ps : List Pair) (pages : List PageRef)
     (r : R) → are_paged (ps ++ heads pages) ≡ true → first_key_of (ps ++ heads pages) ≡ Some key
-    → Run asked told key ps pages r ps pages [] r
-Run-start asked told key ps pages r paged first =
+    → Run gives told key ps pages r ps pages [] r
+Run-start gives told key ps pages r paged first =
     let h : IsPaged (ps ++ heads pages) = IsPaged-from (ps ++ heads pages) paged in
     record {
       groups = λ bytes at. start_at key (pairs_left bytes ps pages) (first_key-left bytes (read_told bytes) ps pages h ∙ first);
@@ -126,9 +126,9 @@ at_key-more : (key id : ℕ) (ids : List ℕ) (zs : List Pair) → at_key key (i
 at_key-more key id [] zs = refl
 at_key-more key id (x ∷ xs) zs = ap (λ (l : List Pair). record { key = key; id = x } ∷ l) (at_key-more key id xs zs)
 
-module _ {R : Type 0} (asked : R → PageRef → R → Type 0) (told : Option (List ℕ)) (key : ℕ) (ps0 : List Pair) (pages0 : List PageRef) (r0 : R) where
+module _ {R : Type 0} (gives : R → PageRef → R → Type 0) (told : Option (List ℕ)) (key : ℕ) (ps0 : List Pair) (pages0 : List PageRef) (r0 : R) where
   run_pop : (p : Pair) (ps : List Pair) (pages : List PageRef) (ids : List ℕ) (r : R) → p.key ≡ key
-      → Run asked told key ps0 pages0 r0 (p ∷ ps) pages ids r → Run asked told key ps0 pages0 r0 ps pages (ids ++ p.id ∷ []) r
+      → Run gives told key ps0 pages0 r0 (p ∷ ps) pages ids r → Run gives told key ps0 pages0 r0 ps pages (ids ++ p.id ∷ []) r
   run_pop p ps pages ids r e run = record {
     groups = λ bytes at.
         subst (λ (k : ℕ). front k (ids ++ p.id ∷ []) (grouped (pairs_left bytes ps pages)) ≡ front k ids (grouped (p ∷ pairs_left bytes ps pages))) e
@@ -156,9 +156,9 @@ module _ {R : Type 0} (asked : R → PageRef → R → Type 0) (told : Option (L
       ap (λ (ps : List Pair). ps ++ pairs_from (page_pairs bytes) pages) (reads.left ∙ ap (kept pages) (sym same))
 
   run_read : (page : PageRef) (pages : List PageRef) (after : List Pair) (ids : List ℕ) (r r' : R) → page.key ≡ key
-      → ReadsPage told page pages after → asked r page r'
-      → Run asked told key ps0 pages0 r0 [] (page ∷ pages) ids r → Run asked told key ps0 pages0 r0 after pages ids r'
-  run_read page pages after ids r r' e reads asks run =
+      → ReadsPage told page pages after → gives r page r'
+      → Run gives told key ps0 pages0 r0 [] (page ∷ pages) ids r → Run gives told key ps0 pages0 r0 after pages ids r'
+  run_read page pages after ids r r' e reads given run =
       let h : IsPaged (heads (page ∷ pages)) = IsPaged-behind (at_key key ids) (heads (page ∷ pages)) run.order in
       let begin = begin-read told page pages after h reads in
       let order : IsPaged (after ++ heads pages) = order-read told page pages after h reads in
@@ -173,20 +173,20 @@ module _ {R : Type 0} (asked : R → PageRef → R → Type 0) (told : Option (L
         front_pages = run.front_pages ++ page ∷ [];
         of_key = all_more (λ (p : PageRef). p.key ≡ key) run.front_pages page run.of_key e;
         are_front = append_assoc run.front_pages (page ∷ []) pages ∙ run.are_front;
-        in_turn = InTurn-append asked run.front_pages (page ∷ []) r0 r r' run.in_turn (r', asks, refl);
+        in_turn = InTurn-append gives run.front_pages (page ∷ []) r0 r r' run.in_turn (r', given, refl);
       }
 
   moved : (ps ps' : List Pair) (pages pages' : List PageRef) (ids ids' : List ℕ) (r r' : R) → ps' ≡ ps → pages' ≡ pages → ids' ≡ ids → r' ≡ r
-      → Run asked told key ps0 pages0 r0 ps pages ids r → Run asked told key ps0 pages0 r0 ps' pages' ids' r'
+      → Run gives told key ps0 pages0 r0 ps pages ids r → Run gives told key ps0 pages0 r0 ps' pages' ids' r'
   moved ps ps' pages pages' ids ids' r r' a b c d run =
-      subst (λ (x : List Pair). Run asked told key ps0 pages0 r0 x pages' ids' r') (sym a)
-      (subst (λ (x : List PageRef). Run asked told key ps0 pages0 r0 ps x ids' r') (sym b)
-      (subst (λ (x : List ℕ). Run asked told key ps0 pages0 r0 ps pages x r') (sym c)
-      (subst (λ (x : R). Run asked told key ps0 pages0 r0 ps pages ids x) (sym d) run)))
+      subst (λ (x : List Pair). Run gives told key ps0 pages0 r0 x pages' ids' r') (sym a)
+      (subst (λ (x : List PageRef). Run gives told key ps0 pages0 r0 ps x ids' r') (sym b)
+      (subst (λ (x : List ℕ). Run gives told key ps0 pages0 r0 ps pages x r') (sym c)
+      (subst (λ (x : R). Run gives told key ps0 pages0 r0 ps pages ids x) (sym d) run)))
 
   pub Run-step : (ps ps' : List Pair) (pages pages' : List PageRef) (ids ids' : List ℕ) (r r' : R)
-      → first_key_of (ps ++ heads pages) ≡ Some key → Steps asked told ps pages ps' pages' ids ids' r r'
-      → Run asked told key ps0 pages0 r0 ps pages ids r → Run asked told key ps0 pages0 r0 ps' pages' ids' r'
+      → first_key_of (ps ++ heads pages) ≡ Some key → Steps gives told ps pages ps' pages' ids ids' r r'
+      → Run gives told key ps0 pages0 r0 ps pages ids r → Run gives told key ps0 pages0 r0 ps' pages' ids' r'
   Run-step [] ps' [] pages' ids ids' r r' first steps run = absurd steps
   Run-step (p ∷ ps) ps' pages pages' ids ids' r r' first steps run =
       let e : p.key ≡ key = cc in

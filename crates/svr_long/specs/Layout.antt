@@ -1,6 +1,7 @@
 -- Words of private clauses.
 use Rattle.std.specs.Prelude.{◌≡◌, List, [], ◌∷◌, ◌++◌, ℕ, Option, Some, None, true}
 use Rattle.std.specs.Option.{ForSome}
+use Rattle.svr_postpage.specs.declared.page_ref.PageFault.{PageFault}
 use Rattle.svr_postpage.specs.declared.page_ref.PageRef.{PageRef}
 use Rattle.svr_postpage.specs.declared.pair.Pair.{Pair}
 use Rattle.svr_postpage.specs.Pairs.{fill_a_page, ref_of}
@@ -33,17 +34,22 @@ abbrev pub IsFaultOf : PageRef → Option (List ℕ) → ScanFault → Type 0
 IsFaultOf page told (fault.Page why) = TellsDamage page told why
 IsFaultOf page told fault.Memory = ⊥
 
+-- asking for the page came to this fault
+abbrev pub FailsAs : {R : Type 0} → (R → PageRef → PageFault → R → Type 0) → R → PageRef → R → ScanFault → Type 0
+FailsAs fails old page new (fault.Page why) = fails old page why new
+FailsAs fails old page new fault.Memory = ⊥
+
 -- a step of taking a group: the id of the first pair that was read is taken, or the next page is read
 abbrev pub Steps : {R : Type 0} → (R → PageRef → R → Type 0) → Option (List ℕ) → List Pair → List PageRef → List Pair → List PageRef
     → List ℕ → List ℕ → R → R → Type 0
-Steps asked told [] [] pairs pages before after old new = ⊥
-Steps asked told [] (page ∷ rest) pairs pages before after old new =
-    ReadsPage told page rest pairs × (pages ≡ rest) × (after ≡ before) × asked old page new
-Steps asked told (pair ∷ left) rest pairs pages before after old new =
+Steps gives told [] [] pairs pages before after old new = ⊥
+Steps gives told [] (page ∷ rest) pairs pages before after old new =
+    ReadsPage told page rest pairs × (pages ≡ rest) × (after ≡ before) × gives old page new
+Steps gives told (pair ∷ left) rest pairs pages before after old new =
     (pairs ≡ left) × (pages ≡ rest) × (after ≡ before ++ pair.id ∷ []) × (new ≡ old)
 
--- a step that failed asked for the next page, or for none
-abbrev pub AsksOne : {R : Type 0} → (R → PageRef → R → Type 0) → List Pair → List PageRef → R → R → Type 0
-AsksOne asked [] [] old new = new ≡ old
-AsksOne asked [] (page ∷ pages) old new = asked old page new
-AsksOne asked (pair ∷ pairs) pages old new = new ≡ old
+-- a step that failed: the next page came to this fault, or memory was wanting for the id of a pair that was read
+abbrev pub StepFails : {R : Type 0} → (R → PageRef → PageFault → R → Type 0) → List Pair → List PageRef → R → R → ScanFault → Type 0
+StepFails fails [] [] old new why = ⊥
+StepFails fails [] (page ∷ pages) old new why = FailsAs fails old page new why
+StepFails fails (pair ∷ pairs) pages old new why = (why ≡ fault.Memory) × (new ≡ old)

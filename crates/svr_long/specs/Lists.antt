@@ -1,5 +1,5 @@
 -- The pages of terms.
-use Rattle.std.specs.Prelude.{◌≡◌, ℕ, zero, ◌+◌, List, [], ◌∷◌, length, find, Option, Some, if◌then◌else◌}
+use Rattle.std.specs.Prelude.{◌≡◌, ◌<◌, ℕ, zero, ◌+◌, List, [], ◌∷◌, length, find, IsSome, Option, Some, unwrap_or, if◌then◌else◌}
 use Rattle.std.specs.Cmp.Lexicographic.{slice_cmp}
 use Rattle.std.specs.List.Sorted.{IsStrictlySortedBy}
 use Rattle.std.specs.Map.{keys_of, lookup}
@@ -11,6 +11,10 @@ use Rattle.svr_postpage.specs.declared.page_ref.PageRef.{PageRef}
 -- the pages of a term, if it is there
 abbrev pub pages_at : List (List ℕ × List PageRef) → List ℕ → Option (List PageRef)
 pages_at lists term = lookup (bytes_eq term) lists
+
+-- each term that is there has a page
+abbrev pub HavePages : List (List ℕ × List PageRef) → Type 0
+HavePages lists = (term : List ℕ) → IsSome (pages_at lists term) → 0 < length (unwrap_or (pages_at lists term) [])
 
 -- a term has these pages now, and every other its own
 abbrev pub SetsPages : List (List ℕ × List PageRef) → List (List ℕ × List PageRef) → List ℕ → List PageRef → Type 0

@@ -2,7 +2,7 @@ ghost use Rattle.std.specs.Prelude.{◌≡◌, ◌≤◌, [], drop, filter, leng
 ghost use Rattle.svr_iter.specs.Reader.{KeepsReader};
 ghost use Rattle.svr_postpage.specs.Pages.{pairs_of};
 ghost use Rattle.svr_long.specs.Cursor.{is_ahead, kept};
-ghost use Rattle.svr_long.specs.Layout.{IsFaultOf, ReadsPage};
+ghost use Rattle.svr_long.specs.Layout.{FailsAs, IsFaultOf, ReadsPage};
 
 use crate::heads::first_pair;
 use std::marker::Model;
@@ -96,7 +96,8 @@ impl PageBuffer {
         ensures reads { OnOk result (ReadsPage (R.told reader.old) page.now pages.now self.new) }
         ensures err { OnErr result (self.new ≡ []) }
         ensures fault { IfErr result (IsFaultOf page.now (R.told reader.old)) }
-        ensures asked { R.asked reader.old page.now reader.new }
+        ensures gives { OnOk result (R.gives reader.old page.now reader.new) }
+        ensures fails { IfErr result (FailsAs R.fails reader.old page.now reader.new) }
         ensures reader { KeepsReader R.told R.ready R.faults reader.old reader.new result }
     {
         self.place = 0;

@@ -1,10 +1,10 @@
-ghost use Rattle.std.specs.Prelude.{◌≡◌, ◌≤◌, ◌<◌, ◌∷◌, ◌++◌, ℕ, List, [], drop, length, true, Some, IsSome, OnOk};
+ghost use Rattle.std.specs.Prelude.{◌≡◌, ◌≤◌, ◌<◌, ◌∷◌, ◌++◌, ℕ, List, [], drop, length, true, Some, IsSome, IfErr, OnOk};
 ghost use Rattle.svr_iter.specs.MemPairs.{grouped};
 ghost use Rattle.svr_iter.specs.Reader.{KeepsReader};
 ghost use Rattle.svr_long.specs.Cursor.{first_key_of, page_pairs, pages_of_key, pairs_from, pairs_left};
 ghost use Rattle.svr_long.specs.CursorLaws.{cursor-gone, cursor-lawful};
 ghost use Rattle.svr_long.specs.Heads.{are_heads, are_paged, heads};
-ghost use Rattle.svr_long.specs.Layout.{AsksOne, Steps};
+ghost use Rattle.svr_long.specs.Layout.{StepFails, Steps};
 
 use crate::buffer::PageBuffer;
 use std::alloc::Global;
@@ -54,9 +54,9 @@ impl<'a> LongCursor<'a> {
         requires ready { R.ready reader.old }
         requires left { self.old.at < length self.old.pages.now }
         requires none { self.old.buffer ≡ [] }
-        ensures steps { (ids : List ℕ) → OnOk result (Steps R.asked (R.told reader.old) self.old.buffer (drop self.old.at self.old.pages.now)
+        ensures steps { (ids : List ℕ) → OnOk result (Steps R.gives (R.told reader.old) self.old.buffer (drop self.old.at self.old.pages.now)
             self.new.buffer (drop self.new.at self.new.pages.now) ids ids reader.old reader.new) }
-        ensures asks { AsksOne R.asked self.old.buffer (drop self.old.at self.old.pages.now) reader.old reader.new }
+        ensures fails { IfErr result (StepFails R.fails self.old.buffer (drop self.old.at self.old.pages.now) reader.old reader.new) }
         ensures pages { self.new.pages ≡ self.old.pages }
         ensures reader { KeepsReader R.told R.ready R.faults reader.old reader.new result }
     {
@@ -71,9 +71,9 @@ impl<'a> LongCursor<'a> {
     fn step<R: PageReader>(&mut self, reader: &mut R, ids: &mut Vec<DocId>) -> Result<(), ScanFault>
         requires ready { R.ready reader.old }
         requires some { IsSome (first_key_of (self.old.buffer ++ heads (drop self.old.at self.old.pages.now))) }
-        ensures steps { OnOk result (Steps R.asked (R.told reader.old) self.old.buffer (drop self.old.at self.old.pages.now)
+        ensures steps { OnOk result (Steps R.gives (R.told reader.old) self.old.buffer (drop self.old.at self.old.pages.now)
             self.new.buffer (drop self.new.at self.new.pages.now) ids.old.items ids.new.items reader.old reader.new) }
-        ensures asks { AsksOne R.asked self.old.buffer (drop self.old.at self.old.pages.now) reader.old reader.new }
+        ensures fails { IfErr result (StepFails R.fails self.old.buffer (drop self.old.at self.old.pages.now) reader.old reader.new) }
         ensures pages { self.new.pages ≡ self.old.pages }
         ensures reader { KeepsReader R.told R.ready R.faults reader.old reader.new result }
     {

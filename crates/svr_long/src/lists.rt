@@ -5,7 +5,7 @@ ghost use Rattle.std.specs.Ordering.{nat_cmp};
 ghost use Rattle.svr_long.specs.Heads.{ArePages, are_heads};
 ghost use Rattle.std.specs.Bound.{bound_map};
 ghost use Rattle.svr_long.specs.Layout.{behind};
-ghost use Rattle.svr_long.specs.Lists.{Ascends, SetsPages, page_count, pages_at, term_after};
+ghost use Rattle.svr_long.specs.Lists.{Ascends, HavePages, SetsPages, page_count, pages_at, term_after};
 
 use std::alloc::Global;
 use std::collections::BTreeMap;
@@ -69,13 +69,13 @@ pub struct LongLists {
 impl Model for LongLists {
     ghost use Rattle.std.specs.Prelude.{◌≡◌, ◌^◌, ◌-◌, ℕ, List, min};
     ghost use Rattle.svr_postpage.specs.declared.page_ref.PageRef.{PageRef};
-    ghost use Rattle.svr_long.specs.Lists.{page_count};
+    ghost use Rattle.svr_long.specs.Lists.{HavePages, page_count};
 
     ghost Value = { List (List ℕ × List PageRef) };
 
     ghost view = { λ l. l.lists.entries };
 
-    ghost invariant = { λ l. l.pages ≡ min (page_count l.lists.entries) (2 ^ 64 - 1) };
+    ghost invariant = { λ l. (l.pages ≡ min (page_count l.lists.entries) (2 ^ 64 - 1)) × HavePages l.lists.entries };
 }
 
 impl LongLists {
@@ -120,6 +120,7 @@ impl LongLists {
     pub fn next_term(&self, after: Option<&Text>) -> Option<&Text>
         ensures value { option_copied result ≡ term_after self.now (option_copied after.entry) }
         ensures ordered { Ascends self.now }
+        ensures paged { HavePages self.now }
     {
         match self.lists.range((behind(after), Bound::Unbounded)).next() {
             Some((term, _)) => Some(term),

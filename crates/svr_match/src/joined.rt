@@ -2,7 +2,7 @@ ghost use Rattle.std.specs.Prelude.{◌≡◌, ◌<◌, ◌^◌, OnOk, filter};
 ghost use Rattle.std.specs.List.{AllByRecursion, flat_map};
 ghost use Rattle.std.specs.List.Sorted.{IsStrictlyIncreasing};
 ghost use Rattle.svr_listing.specs.Joined.{either, is_in};
-ghost use Rattle.svr_postpage.specs.Reading.{Asks};
+ghost use Rattle.svr_iter.specs.Asked.{Asks};
 ghost use Rattle.svr_iter.specs.Layout.{IsUpTo};
 ghost use Rattle.svr_iter.specs.Reader.{KeepsReader};
 ghost use Rattle.svr_match.specs.Joined.{any_of, common_with};
@@ -29,7 +29,7 @@ pub(crate) fn keep_each<P: Postings, R: PageReader>(
     requires ascending { IsStrictlyIncreasing ids.old.items }
     ensures takes { OnOk result (AreTaken P.groups P.next P.may P.pages (R.told reader.old) key lists.old.items lists.new.items
         (λ all. ids.new.items ≡ common_with ids.old.items all)) }
-    ensures asks { Asks R.asked (flat_map (λ list. P.pages list key) lists.old.items) reader.old reader.new result }
+    ensures asks { Asks R.gives R.fails (flat_map (λ list. P.pages list key) lists.old.items) reader.old reader.new result }
     ensures reader { KeepsReader R.told R.ready R.faults reader.old reader.new result }
 {
     for list in lists.iter_mut() {
@@ -72,7 +72,7 @@ pub(crate) fn take_each<P: Postings, R: PageReader>(
     requires ready { R.ready reader.old }
     ensures takes { OnOk result (AreTaken P.groups P.next P.may P.pages (R.told reader.old) key lists.old.items lists.new.items
         (λ all. ids.new.items ≡ any_of all)) }
-    ensures asks { Asks R.asked (flat_map (λ list. P.pages list key) lists.old.items) reader.old reader.new result }
+    ensures asks { Asks R.gives R.fails (flat_map (λ list. P.pages list key) lists.old.items) reader.old reader.new result }
     ensures reader { KeepsReader R.told R.ready R.faults reader.old reader.new result }
 {
     ids.clear();
@@ -109,7 +109,7 @@ pub(crate) fn keep_some<P: Postings, R: PageReader>(
     requires ascending { IsStrictlyIncreasing ids.now }
     ensures takes { OnOk result (AreTaken P.groups P.next P.may P.pages (R.told reader.old) key lists.old.items lists.new.items
         (λ all. kept.new.items ≡ filter (λ id. is_in id (any_of all)) ids.now)) }
-    ensures asks { Asks R.asked (flat_map (λ list. P.pages list key) lists.old.items) reader.old reader.new result }
+    ensures asks { Asks R.gives R.fails (flat_map (λ list. P.pages list key) lists.old.items) reader.old reader.new result }
     ensures reader { KeepsReader R.told R.ready R.faults reader.old reader.new result }
 {
     kept.clear();

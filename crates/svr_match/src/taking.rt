@@ -1,6 +1,6 @@
 ghost use Rattle.std.specs.Prelude.{◌≡◌, ◌<◌, ◌^◌, OnOk, map};
 ghost use Rattle.std.specs.List.Sorted.{IsStrictlyIncreasing};
-ghost use Rattle.svr_postpage.specs.Reading.{Asks};
+ghost use Rattle.svr_iter.specs.Asked.{Asks};
 ghost use Rattle.svr_iter.specs.Keys.{greatest};
 ghost use Rattle.svr_iter.specs.Layout.{IsUpTo, KeepsAt, TakesAt};
 ghost use Rattle.svr_iter.specs.Reader.{KeepsReader};
@@ -33,7 +33,7 @@ pub(crate) fn take_at<P: Postings, R: PageReader>(
     requires fits { key < 2 ^ 48 }
     requires ready { R.ready reader.old }
     ensures takes { OnOk result (TakesAt P.groups P.next P.may P.pages (R.told reader.old) key list.old list.new ids.new.items) }
-    ensures asks { Asks R.asked (P.pages list.old key) reader.old reader.new result }
+    ensures asks { Asks R.gives R.fails (P.pages list.old key) reader.old reader.new result }
     ensures reader { KeepsReader R.told R.ready R.faults reader.old reader.new result }
 {
     if list.next_key() == Some(key) {
@@ -58,7 +58,7 @@ pub(crate) fn keep_at<P: Postings, R: PageReader>(
     requires ascending { IsStrictlyIncreasing ids.old.items }
     ensures keeps { OnOk result (KeepsAt P.groups P.next P.may P.pages (R.told reader.old) key list.old list.new
         ids.old.items ids.new.items) }
-    ensures asks { Asks R.asked (P.pages list.old key) reader.old reader.new result }
+    ensures asks { Asks R.gives R.fails (P.pages list.old key) reader.old reader.new result }
     ensures reader { KeepsReader R.told R.ready R.faults reader.old reader.new result }
 {
     if list.next_key() == Some(key) {

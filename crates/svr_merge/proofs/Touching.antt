@@ -1,5 +1,6 @@
 -- Documents that changed are touched.
-use Rattle.std.proofs.Common.{◌≡◌, ◌==◌, ◌||◌, ℕ, Bool, true, false, Option, Some, None, option_map, cond, List, [], ◌∷◌, refl, sym, ap, ◌∙◌, if◌then◌else◌}
+use Rattle.std.proofs.Common.{◌≡◌, ◌==◌, ◌||◌, ℕ, Bool, true, false, Option, Some, None, option_map, cond, List, [], ◌∷◌, refl, sym, ap}
+use Rattle.std.proofs.Common.{◌∙◌, if◌then◌else◌}
 use Rattle.svr_chunks.specs.Chosen.{chosen_rules}
 use Rattle.svr_idmap.specs.Ids.{SetsValue, value_at}
 use Rattle.svr_listing.specs.Joined.{is_in}

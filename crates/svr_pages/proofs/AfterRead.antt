@@ -1,19 +1,19 @@
 -- After one read of a page.
-use Rattle.std.proofs.Common.{◌≡◌, ◌⊎◌, ℕ, List, [], ◌∷◌, take, drop, Option, None, Some, Result, Ok, Err, OnOk, IsOk, IfErr, refl, sym, ap, subst, ◌∙◌, inl, inr}
-use Rattle.std.specs.Option.{ForSome, option_map}
+use Rattle.std.proofs.Common.{◌≡◌, ◌⊎◌, ◌≤◌, ◌+◌, ℕ, List, [], ◌∷◌, take, drop, Option, None, Some, Result, Ok, Err, OnOk, OnErr, IsOk, IsErr, IfErr, refl, sym, ap, subst, ◌∙◌, inr}
+use Rattle.std.specs.Option.{option_map}
 use Rattle.svr_edge.specs.Disk.{DiskView, ReadCause, Reads, Stays, traced}
-use Rattle.svr_postpage.specs.declared.page_ref.Damage.{Damage}
 use Rattle.svr_postpage.specs.declared.page_ref.Damage.TheVariants as damage
 use Rattle.svr_postpage.specs.declared.page_ref.PageFault.{PageFault}
 use Rattle.svr_postpage.specs.declared.page_ref.PageFault.TheVariants as fault
 use Rattle.svr_postpage.specs.declared.page_ref.PageRef.{PageRef}
 use Rattle.svr_postpage.specs.declared.pair.Pair.{Pair}
-use Rattle.svr_postpage.specs.Pages.{bytes_at, page_in}
+use Rattle.svr_postpage.specs.Pages.{page_in}
 use Rattle.svr_postpage.specs.Pairs.{ref_of}
-use Rattle.svr_postpage.specs.Wanted.{TellsDamage, damage_by_pairs, damage_in}
-use Rattle.svr_pages.specs.Asked.{Answers, AreRead, Keeps, ReadsOnce, Says}
-use Rattle.svr_pages.specs.Cached.{CachedPages, MayKeep}
-use Rattle.svr_pages.proofs.Telling.{says_damage}
+use Rattle.svr_postpage.specs.Wanted.{damage_by_pairs, damage_in}
+use Rattle.svr_pages.specs.Asked.{AreRead, Fails, FailsToRead, Gives, IsReady, ReadsOnce}
+use Rattle.svr_pages.specs.Cached.{CachedPages, cached_at}
+use Rattle.svr_pages.specs.Layout.{ReadsPage}
+use Rattle.svr_pages.proofs.Telling.{ready-keeps, ready-stays}
 
 -- a read that didn't fail
 pub read_ok : {T E : Type 0} (at : ℕ) (old new : DiskView) (into : List ℕ) (n : ℕ) (result : Result T E) → n ≡ 4096 → IsOk result
@@ -23,7 +23,7 @@ pub read_ok : {T E : Type 0} (at : ℕ) (old new : DiskView) (into : List ℕ) (
 read_ok at old new into n (Ok x) long ok stays trace bytes cause = (
   record {
     stays = stays;
-    trace = inl (trace ∙ ap (traced old.trace at) long);
+    trace = trace ∙ ap (traced old.trace at) long;
     later = cause.reads.later;
     writes = cause.writes;
   },
@@ -31,13 +31,17 @@ read_ok at old new into n (Ok x) long ok stays trace bytes cause = (
 )
 read_ok at old new into n (Err e) long ok stays trace bytes cause = absurd (cc)
 
--- the answer, where this is wrong
-pub says_some : (T : Type 0) (want : PageRef) (o : Option Damage) (why : Damage) → o ≡ Some why
-    → Says {T = T} want o (Err (fault.Damaged want.at why))
-says_some T want o why is = subst (λ (d : Option Damage). Says {T = T} want d (Err (fault.Damaged want.at why))) (sym is) refl
-
-pub says_nothing : {T : Type 0} (want : PageRef) (o : Option Damage) (x : T) → o ≡ None → Says {T = T} want o (Ok x)
-says_nothing {T} want o x is = subst (λ (d : Option Damage). Says {T = T} want d (Ok x)) (sym is) tt
+-- one that did
+pub read_failed : {T E : Type 0} (at : ℕ) (old new : DiskView) (n : ℕ) (result : Result T E) → n ≡ 4096 → IsErr result → Stays old new
+    → OnErr result ((new.trace ≡ old.trace) ⊎ (new.trace ≡ traced old.trace at n)) → ReadCause old new result → FailsToRead at old new
+read_failed at old new n (Ok x) long err stays trace cause = absurd (cc)
+read_failed at old new n (Err e) long err stays trace cause = record {
+  stays = stays;
+  trace = subst (λ m. (new.trace ≡ old.trace) ⊎ (new.trace ≡ traced old.trace at m)) long trace;
+  later = cause.reads.later;
+  rose = cause.reads.failed;
+  writes = cause.writes;
+}
 
 pub not_a_page : (want : PageRef) (into : List ℕ) → page_in into ≡ None → damage_in want into ≡ Some damage.NotAPage
 not_a_page want into is = ap (damage_by_pairs want) is
@@ -53,35 +57,52 @@ at-found at (Some pairs) found is =
     let same : ref_of at pairs ≡ found = cc in
     ap (λ (p : PageRef). p.at) (sym same) ∙ at-ref_of at pairs
 
--- the page was cached, or it wasn't
-pub caches : (want : PageRef) (d : DiskView) (old new : CachedPages) (at : ℕ) (into : List ℕ) → at ≡ want.at → damage_in want into ≡ None
-    → AreRead want.at d into → MayKeep at into old new → (new ≡ old) ⊎ Keeps want d old new
-caches want d old new at into same wanted are (inl stays) = inl stays
-caches want d old new at into same wanted are (inr (room, kept)) = inr (record {
-  bytes = into;
-  wanted = wanted;
-  are_read = are;
-  room = room;
-  kept = kept ∙ rw same refl;
-})
+-- what reading a page that isn't cached comes to
+module _ {T : Type 0} (want : PageRef) (old new : DiskView) (pages kept : CachedPages) (into : List ℕ) where
+  reads-stays : (result : Result T PageFault) → ReadsPage want old new pages kept into result → Stays old new
+  reads-stays (Ok x) reads = reads.0.stays
+  reads-stays (Err fault.Read) reads = reads.0.stays
+  reads-stays (Err (fault.Damaged at why)) reads = reads.0.stays
 
--- what was read is told, unless the read failed
-pub answered_bytes : {T : Type 0} (want : PageRef) (old new : DiskView) (into : List ℕ) (P : Type 0) (result : Result T PageFault)
-    → Answers want old new into result → (AreRead want.at old into → P) → OnOk result P
-answered_bytes want old new into P (Ok x) (inl (failed, rose)) then = absurd (cc)
-answered_bytes want old new into P (Ok x) (inr (says, are)) then = then are
-answered_bytes want old new into P (Err e) answers then = tt
+  reads-kept : (reach : ℕ) (result : Result T PageFault) → ReadsPage want old new pages kept into result → IsReady reach old pages
+      → IsReady reach old kept
+  reads-kept reach (Ok x) reads ready = ready-keeps reach old pages kept want.at into ready reads.1 reads.3
+  reads-kept reach (Err fault.Read) reads ready = subst (IsReady reach old) (sym reads.1) ready
+  reads-kept reach (Err (fault.Damaged at why)) reads ready = subst (IsReady reach old) (sym reads.3) ready
 
--- a damage is told, unless the read failed
-pub answered_damage : {T : Type 0} (want : PageRef) (old new : DiskView) (into : List ℕ) (told : Option (List ℕ)) (result : Result T PageFault)
-    → Answers want old new into result → (AreRead want.at old into → ForSome told (λ bytes. into ≡ bytes_at bytes want.at))
-    → IfErr result (TellsDamage want told)
-answered_damage want old new into told (Ok x) (inl (failed, rose)) then = tt
-answered_damage want old new into told (Err e) (inl (failed, rose)) then =
-    let same : e ≡ fault.Read = cc in
-    subst (TellsDamage want told) (sym same) tt
-answered_damage want old new into told result (inr (says, are)) then = says_damage want told into result (then are) says
+  pub reads-ready : (reach : ℕ) (result : Result T PageFault) → ReadsPage want old new pages kept into result → IsReady reach old pages
+      → IsReady reach new kept
+  reads-ready reach result reads ready =
+      ready-stays reach old new kept (reads-kept reach result reads ready) (reads-stays result reads)
 
-pub on_ok : {T E : Type 0} (result : Result T E) (P : Type 0) → P → OnOk result P
-on_ok (Ok x) P holds = holds
-on_ok (Err e) P holds = tt
+  pub reads-bytes : (P : Type 0) (result : Result T PageFault) → ReadsPage want old new pages kept into result
+      → (AreRead want.at old into → P) → OnOk result P
+  reads-bytes P (Ok x) reads then = then reads.1
+  reads-bytes P (Err e) reads then = tt
+
+module _ {D T : Type 0} (view : D → DiskView) (reach : ℕ) (want : PageRef) (old new : D) (pages kept : CachedPages) (into : List ℕ)
+    (within : want.at + 4096 ≤ reach) (none : cached_at want.at pages ≡ None) where
+  pub reads-gives : (result : Result T PageFault) → ReadsPage want (view old) (view new) pages kept into result
+      → OnOk result (Gives view reach want old new pages kept)
+  reads-gives (Ok x) reads = record {
+    bytes = into;
+    wanted = reads.2;
+    are_read = reads.1;
+    from = inr (record { within = within; not_cached = none; once = reads.0 }, reads.3);
+  }
+  reads-gives (Err e) reads = tt
+
+  pub reads-fails : (result : Result T PageFault) → ReadsPage want (view old) (view new) pages kept into result
+      → IfErr result (Fails view reach want old new pages kept)
+  reads-fails (Ok x) reads = tt
+  reads-fails (Err fault.Read) reads =
+      record { within = within; not_cached = none; fails = reads.0; same_pages = reads.1 }
+  reads-fails (Err (fault.Damaged at why)) reads = (
+    reads.4,
+    inr (record {
+      bytes = into;
+      wrong = reads.2;
+      are_read = reads.1;
+      from = inr (record { within = within; not_cached = none; once = reads.0 }, reads.3);
+    }),
+  )

@@ -1,3 +1,4 @@
 pub mod Asked
 pub mod Cached
 pub mod Layout
+pub mod Told

@@ -1,8 +1,10 @@
 ghost use Rattle.std.specs.Prelude.{◌≡◌, ◌<◌, ◌≤◌, ◌+◌, true, false, None, take};
 ghost use Rattle.std.specs.Option.{option_map};
 ghost use Rattle.svr_postpage.specs.Wanted.{damage_by_head};
-ghost use Rattle.svr_pages.specs.Asked.{Asked, IsReady, ReadsPage, Says};
+ghost use Rattle.svr_pages.specs.Asked.{Fails, Gives, IsReady};
 ghost use Rattle.svr_pages.specs.Cached.{cached_at};
+ghost use Rattle.svr_pages.specs.Layout.{ReadsPage, Says};
+ghost use Rattle.svr_pages.specs.Told.{Fails-tells, Gives-same, Gives-sound};
 
 use crate::pages::Pages;
 use svr_edge::Disk;
@@ -24,8 +26,19 @@ impl<'a, D: Disk> PageReader for Reader<'a, D> {
 
     ghost ready = { λ r. IsReady r.reach (D.view r.disk.now) r.pages.now };
 
-    ghost asked = { λ old want new. Asked D.view old.reach want old.disk.now new.disk.now old.pages.now new.pages.now
+    ghost gives = { λ old want new. Gives D.view old.reach want old.disk.now new.disk.now old.pages.now new.pages.now
         × (new.reach ≡ old.reach) × (new.pages.ghost_name ≡ old.pages.ghost_name) × (new.disk.ghost_name ≡ old.disk.ghost_name) };
+
+    ghost fails = { λ old want why new. Fails D.view old.reach want old.disk.now new.disk.now old.pages.now new.pages.now why
+        × (new.reach ≡ old.reach) × (new.pages.ghost_name ≡ old.pages.ghost_name) × (new.disk.ghost_name ≡ old.disk.ghost_name) };
+
+    ghost sound = { λ old want new given. Gives-sound D.view old.reach want old.disk.now new.disk.now old.pages.now new.pages.now given.0 };
+
+    ghost same_told = { λ old want new given. Gives-same D.view old.reach want old.disk.now new.disk.now old.pages.now new.pages.now
+        new.reach given.0 given.1 };
+
+    ghost faulty = { λ old want why new failed. Fails-tells D.view old.reach want old.disk.now new.disk.now old.pages.now new.pages.now
+        why failed.0 };
 
     fn page(&mut self, want: &PageRef, into: &mut [u8; 4096]) -> Result<(), PageFault> {
         if !ends_within(want.at, self.reach) {

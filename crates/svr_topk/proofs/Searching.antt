@@ -1,20 +1,25 @@
 -- The steps of a search, and its end.
-use Rattle.std.proofs.Common.{◌≡◌, ℕ, ◌+◌, ◌<◌, ◌≤◌, ◌^◌, Bool, true, false, not, List, [], ◌∷◌, ◌++◌, length, take, drop, Option, Some, None, Result, Ok, Err, IsErr, unwrap_or, refl, ap, sym, subst, ◌∙◌, arith, below_more, zero, suc}
+use Rattle.std.proofs.Common.{◌≡◌, ℕ, ◌+◌, ◌<◌, ◌≤◌, ◌^◌, Bool, true, false, not, List, [], ◌∷◌, ◌++◌, length, take, drop, Option, Some, None, Result, Ok, Err, unwrap_or, refl, ap, sym, subst, ◌∙◌, arith, below_more, zero, suc}
 use Rattle.std.specs.List.{flat_map}
 use Rattle.std.specs.Option.{ForSome}
+use Rattle.std.specs.Result.{IsErrAnd}
 use Rattle.std.proofs.lemmas.Grind.{flat_map-append}
 use Rattle.std.proofs.lemmas.List.{append_assoc, append-nil}
 use Rattle.svr_num.specs.declared.hit.Hit.{Hit}
 use Rattle.svr_num.specs.Hits.{best_hits, kth_score}
+use Rattle.svr_postpage.specs.declared.page_ref.PageFault.{PageFault}
 use Rattle.svr_postpage.specs.declared.page_ref.PageRef.{PageRef}
-use Rattle.svr_postpage.specs.Reading.{Asks, AsksByBytes, InTurn, IsFront}
+use Rattle.svr_postpage.specs.Reading.{InTurn, IsFront}
 use Rattle.svr_listing.specs.Groups.{AreGroups, first_key, hits_of}
 use Rattle.svr_listing.specs.declared.group.Group.{Group}
 use Rattle.svr_listing.specs.Methods.{AreLawful, Rules}
 use Rattle.svr_listing.specs.Visits.{IsAnswer, is_above, pages_visited, stops, visited}
 use Rattle.svr_listing.proofs.Visiting.{AreBounded, SoFar, SoFar-more, SoFar-none, SoFar-settled, group_at, least-after, stops-at}
+use Rattle.svr_iter.specs.Asked.{Asks, AsksByBytes}
 use Rattle.svr_iter.specs.Taking.{IsLess, KeepsBelow}
-use Rattle.svr_iter.proofs.Asking.{InTurn-append}
+use Rattle.svr_iter.specs.declared.fault.ScanFault.{ScanFault}
+use Rattle.svr_iter.specs.declared.fault.ScanFault.TheVariants as scan
+use Rattle.svr_iter.proofs.Asking.{InTurn-append, Stops-more, given_all}
 use Rattle.svr_topk.specs.Scan.{goes_on}
 
 -- how many groups there may be still
@@ -73,50 +78,75 @@ answer_at_end k may bound score groups n hits (group ∷ rest) next some b are s
     true_from_not _ (subst (λ (o : Option ℕ). goes_on o bound (kth_score k hits) ≡ false) (sym are.begin) ends) in
     SoFar-settled k may bound score groups n hits group rest some b are.descend are.each so above
 
--- ---- the pages that were asked for
+-- ---- the pages that were given
 
--- these pages were asked for so far
-pub record HasAsked {R : Type 0} (told : Option (List ℕ)) (asked : R → PageRef → R → Type 0) (pages : List ℕ → List PageRef)
+-- these pages were given so far
+pub record HasGiven {R : Type 0} (told : Option (List ℕ)) (gives : R → PageRef → R → Type 0) (pages : List ℕ → List PageRef)
     (old new : R) : Type 0 where
-  pub asked_for : List PageRef
-  pub in_turn : InTurn asked asked_for old new
-  pub are_these : ForSome told (λ bytes. asked_for ≡ pages bytes)
+  pub given : List PageRef
+  pub in_turn : InTurn gives given old new
+  pub are_these : ForSome told (λ bytes. given ≡ pages bytes)
 
-pub nothing_asked : {R T E : Type 0} (told : Option (List ℕ)) (asked : R → PageRef → R → Type 0) (pages : List ℕ → List PageRef)
-    (reader : R) (e : E)
-    → AsksByBytes {R = R} {T = T} {E = E} told asked pages reader reader (Err e)
-nothing_asked told asked pages reader e = record { asked_for = []; in_turn = refl; are_these = λ bytes at. (pages bytes, refl) }
+module _ {R : Type 0} (gives : R → PageRef → R → Type 0) (fails : R → PageRef → PageFault → R → Type 0) where
+  -- no page was asked for
+  pub nothing_asked : {T : Type 0} (told : Option (List ℕ)) (pages : List ℕ → List PageRef) (reader : R)
+      → AsksByBytes {R = R} {T = T} told gives fails pages reader reader (Err scan.Memory)
+  nothing_asked None pages reader = record {
+    given = [];
+    left = [];
+    between = reader;
+    are_these = λ bytes at. absurd (cc);
+    in_turn = refl;
+    stops = refl;
+  }
+  nothing_asked (Some tells) pages reader = record {
+    given = [];
+    left = pages tells;
+    between = reader;
+    are_these = λ bytes at. (let same : tells ≡ bytes = cc in ap pages same);
+    in_turn = refl;
+    stops = refl;
+  }
 
-pub HasAsked-more : {R T E : Type 0} (told : Option (List ℕ)) (asked : R → PageRef → R → Type 0) (pages more : List ℕ → List PageRef)
-    (group : List PageRef) (old mid new : R) (value : T)
-    → HasAsked told asked pages old mid → Asks {R = R} {T = T} {E = E} asked group mid new (Ok value)
-    → ForSome told (λ bytes. more bytes ≡ pages bytes ++ group) → HasAsked told asked more old new
-HasAsked-more {R} {T} {E} told asked pages more group old mid new value has asks is = record {
-  asked_for = has.asked_for ++ asks.asked_for;
-  in_turn = InTurn-append asked has.asked_for asks.asked_for old mid new has.in_turn asks.in_turn;
-  are_these = λ bytes at. ap (λ (l : List PageRef). l ++ asks.asked_for) (has.are_these bytes at)
-      ∙ ap (λ (l : List PageRef). pages bytes ++ l) asks.are_these ∙ sym (is bytes at);
-}
+  pub HasGiven-more : {T : Type 0} (told : Option (List ℕ)) (pages more : List ℕ → List PageRef) (group : List PageRef) (old mid new : R)
+      (value : T)
+      → HasGiven told gives pages old mid → Asks {R = R} {T = T} gives fails group mid new (Ok value)
+      → ForSome told (λ bytes. more bytes ≡ pages bytes ++ group) → HasGiven told gives more old new
+  HasGiven-more {T} told pages more group old mid new value has asks is = record {
+    given = has.given ++ group;
+    in_turn = InTurn-append gives has.given group old mid new has.in_turn (given_all {R = R} gives fails {T = T} group mid new value asks);
+    are_these = λ bytes at. ap (λ (l : List PageRef). l ++ group) (has.are_these bytes at) ∙ sym (is bytes at);
+  }
 
-pub HasAsked-fault : {R T V E F : Type 0} (told : Option (List ℕ)) (asked : R → PageRef → R → Type 0) (pages all : List ℕ → List PageRef)
-    (group : List PageRef) (old mid new : R) (e : E) (f : F)
-    → HasAsked told asked pages old mid → Asks {R = R} {T = T} {E = E} asked group mid new (Err e)
-    → ForSome told (λ bytes. IsFront (pages bytes ++ group) (all bytes))
-    → AsksByBytes {R = R} {T = V} {E = F} told asked all old new (Err f)
-HasAsked-fault told asked pages all group old mid new e f has asks front = record {
-  asked_for = has.asked_for ++ asks.asked_for;
-  in_turn = InTurn-append asked has.asked_for asks.asked_for old mid new has.in_turn asks.in_turn;
-  are_these = λ bytes at.
-      let rest = asks.are_these in
-      let others = front bytes at in (
-        rest.0 ++ others.0,
-        append_assoc has.asked_for asks.asked_for (rest.0 ++ others.0)
-            ∙ ap (λ (l : List PageRef). l ++ (asks.asked_for ++ (rest.0 ++ others.0))) (has.are_these bytes at)
-            ∙ ap (λ (l : List PageRef). pages bytes ++ l)
-            (sym (append_assoc asks.asked_for rest.0 others.0) ∙ ap (λ (l : List PageRef). l ++ others.0) rest.1)
-            ∙ sym (append_assoc (pages bytes) group others.0) ∙ others.1,
-      );
-}
+  pub HasGiven-fault : {T V : Type 0} (told : Option (List ℕ)) (pages all : List ℕ → List PageRef) (group : List PageRef) (old mid new : R)
+      (f : ScanFault)
+      → HasGiven told gives pages old mid → Asks {R = R} {T = T} gives fails group mid new (Err f)
+      → ForSome told (λ bytes. IsFront (pages bytes ++ group) (all bytes))
+      → AsksByBytes {R = R} {T = V} told gives fails all old new (Err f)
+  HasGiven-fault {T} {V} None pages all group old mid new f has asks front = record {
+    given = has.given ++ asks.given;
+    left = asks.left ++ [];
+    between = asks.between;
+    are_these = λ bytes at. absurd (cc);
+    in_turn = InTurn-append gives has.given asks.given old mid asks.between has.in_turn asks.in_turn;
+    stops = Stops-more T V fails asks.left [] asks.between new f asks.stops;
+  }
+  HasGiven-fault {T} {V} (Some tells) pages all group old mid new f has asks front =
+      let others = front tells refl in
+      let is : (has.given ++ asks.given) ++ (asks.left ++ others.0) ≡ all tells =
+      append_assoc has.given asks.given (asks.left ++ others.0)
+      ∙ ap (λ (l : List PageRef). l ++ (asks.given ++ (asks.left ++ others.0))) (has.are_these tells refl)
+      ∙ ap (λ (l : List PageRef). pages tells ++ l)
+      (sym (append_assoc asks.given asks.left others.0) ∙ ap (λ (l : List PageRef). l ++ others.0) asks.are_these)
+      ∙ sym (append_assoc (pages tells) group others.0) ∙ others.1 in
+      record {
+        given = has.given ++ asks.given;
+        left = asks.left ++ others.0;
+        between = asks.between;
+        are_these = λ bytes at. (let same : tells ≡ bytes = cc in is ∙ ap all same);
+        in_turn = InTurn-append gives has.given asks.given old mid asks.between has.in_turn asks.in_turn;
+        stops = Stops-more T V fails asks.left others.0 asks.between new f asks.stops;
+      }
 
 abbrev pub pages_in : (ℕ → List PageRef) → List Group → List PageRef
 pages_in pages groups = flat_map (λ group. pages group.key) groups
@@ -179,60 +209,57 @@ so_far-more told mid_told k bound score old left new n hits more next ids so sam
     (subst (λ (l : List Group). SoFar k bound score (old bytes) n hits l) first (so bytes at))
     (goes_on-some next bound (kth_score k hits) goes).1 e
 
-pub asked-more : {R T E : Type 0} (told : Option (List ℕ)) (asked : R → PageRef → R → Type 0) (may : ℕ → ℕ → Bool) (k : ℕ) (bound : ℕ → ℕ)
-    (score : ℕ → Option ℕ)
-    (old left : List ℕ → List Group) (pages now_pages : ℕ → List PageRef) (n : ℕ) (hits : List Hit) (next : Option ℕ) (start mid new : R)
-    (value : T)
-    → ForSome told (λ bytes. SoFar k bound score (old bytes) n hits (left bytes)) → ((bytes : List ℕ) → AreGroups may next (left bytes))
-    → goes_on next bound (kth_score k hits) ≡ true → now_pages (unwrap_or next 0) ≡ pages (unwrap_or next 0)
-    → HasAsked told asked (λ bytes. pages_in pages (take n (old bytes))) start mid
-    → Asks {R = R} {T = T} {E = E} asked (now_pages (unwrap_or next 0)) mid new (Ok value)
-    → HasAsked told asked (λ bytes. pages_in pages (take (n + 1) (old bytes))) start new
-asked-more {R} {T} {E} told asked may k bound score old left pages now_pages n hits next start mid new value so are goes same has asks =
-    HasAsked-more {R = R} {T = T} {E = E} told asked _ _ (now_pages (unwrap_or next 0)) start mid new value has asks (λ bytes at.
-    let f = first_group (left bytes) (unwrap_or next 0) ((are bytes).begin ∙ (goes_on-some next bound (kth_score k hits) goes).0) in
-    pages_in-more pages (old bytes) n f.0 f.1 ((so bytes at).left_is ∙ f.2)
-    ∙ ap (λ (l : List PageRef). pages_in pages (take n (old bytes)) ++ l) (ap pages f.3 ∙ sym same))
+module _ {R : Type 0} (told : Option (List ℕ)) (gives : R → PageRef → R → Type 0) (fails : R → PageRef → PageFault → R → Type 0)
+    (may : ℕ → ℕ → Bool) (k : ℕ) (bound : ℕ → ℕ) (score : ℕ → Option ℕ) (old left : List ℕ → List Group)
+    (pages now_pages : ℕ → List PageRef) (n : ℕ) (hits : List Hit) (next : Option ℕ) (start mid new : R)
+    (so : ForSome told (λ bytes. SoFar k bound score (old bytes) n hits (left bytes)))
+    (are : (bytes : List ℕ) → AreGroups may next (left bytes))
+    (goes : goes_on next bound (kth_score k hits) ≡ true) (same : now_pages (unwrap_or next 0) ≡ pages (unwrap_or next 0))
+    (has : HasGiven told gives (λ bytes. pages_in pages (take n (old bytes))) start mid) where
+  pub given-more : {T : Type 0} (value : T) → Asks {R = R} {T = T} gives fails (now_pages (unwrap_or next 0)) mid new (Ok value)
+      → HasGiven told gives (λ bytes. pages_in pages (take (n + 1) (old bytes))) start new
+  given-more {T} value asks = HasGiven-more {R = R} gives fails {T = T} told _ _ (now_pages (unwrap_or next 0)) start mid new value has asks
+      (λ bytes at.
+      let f = first_group (left bytes) (unwrap_or next 0) ((are bytes).begin ∙ (goes_on-some next bound (kth_score k hits) goes).0) in
+      pages_in-more pages (old bytes) n f.0 f.1 ((so bytes at).left_is ∙ f.2)
+      ∙ ap (λ (l : List PageRef). pages_in pages (take n (old bytes)) ++ l) (ap pages f.3 ∙ sym same))
 
-pub asked-fault : {R T V E F : Type 0} (told : Option (List ℕ)) (asked : R → PageRef → R → Type 0) (may : ℕ → ℕ → Bool) (k : ℕ)
-    (bound : ℕ → ℕ) (score : ℕ → Option ℕ)
-    (old left : List ℕ → List Group) (pages now_pages : ℕ → List PageRef) (n : ℕ) (hits : List Hit) (next : Option ℕ) (start mid new : R)
-    (e : E) (f : F)
-    → ForSome told (λ bytes. SoFar k bound score (old bytes) n hits (left bytes)) → ((bytes : List ℕ) → AreGroups may next (left bytes))
-    → goes_on next bound (kth_score k hits) ≡ true → now_pages (unwrap_or next 0) ≡ pages (unwrap_or next 0)
-    → HasAsked told asked (λ bytes. pages_in pages (take n (old bytes))) start mid
-    → Asks {R = R} {T = T} {E = E} asked (now_pages (unwrap_or next 0)) mid new (Err e)
-    → AsksByBytes {R = R} {T = V} {E = F} told asked (λ bytes. pages_visited k bound score pages (old bytes)) start new (Err f)
-asked-fault {R} {T} {V} {E} {F} told asked may k bound score old left pages now_pages n hits next start mid new e f so are goes same has
-    asks =
-    HasAsked-fault {R = R} {T = T} {V = V} {E = E} {F = F} told asked _ _ (now_pages (unwrap_or next 0)) start mid new e f has asks
-    (λ bytes at.
-    let key = unwrap_or next 0 in
-    let some = goes_on-some next bound (kth_score k hits) goes in
-    let first = first_group (left bytes) key ((are bytes).begin ∙ some.0) in
-    let front = pages_in-front k bound score pages (old bytes) n hits first.0 first.1
-    (subst (λ (l : List Group). SoFar k bound score (old bytes) n hits l) first.2 (so bytes at))
-    (subst (λ (m : ℕ). is_above (kth_score k hits) (bound m) ≡ false) (sym first.3) some.1) in
-    subst (λ (l : List PageRef). IsFront (pages_in pages (take n (old bytes)) ++ l) (pages_visited k bound score pages (old bytes)))
-    (ap pages first.3 ∙ sym same) front)
+  pub given-fault : {T V : Type 0} (f : ScanFault) → Asks {R = R} {T = T} gives fails (now_pages (unwrap_or next 0)) mid new (Err f)
+      → AsksByBytes {R = R} {T = V} told gives fails (λ bytes. pages_visited k bound score pages (old bytes)) start new (Err f)
+  given-fault {T} {V} f asks = HasGiven-fault {R = R} gives fails {T = T} {V = V} told _ _ (now_pages (unwrap_or next 0)) start mid new f has
+      asks (λ bytes at.
+      let key = unwrap_or next 0 in
+      let some = goes_on-some next bound (kth_score k hits) goes in
+      let first = first_group (left bytes) key ((are bytes).begin ∙ some.0) in
+      let front = pages_in-front k bound score pages (old bytes) n hits first.0 first.1
+      (subst (λ (l : List Group). SoFar k bound score (old bytes) n hits l) first.2 (so bytes at))
+      (subst (λ (m : ℕ). is_above (kth_score k hits) (bound m) ≡ false) (sym first.3) some.1) in
+      subst (λ (l : List PageRef). IsFront (pages_in pages (take n (old bytes)) ++ l) (pages_visited k bound score pages (old bytes)))
+      (ap pages first.3 ∙ sym same) front)
 
-pub asks_from_err : {R V F : Type 0} (told : Option (List ℕ)) (asked : R → PageRef → R → Type 0) (pages : List ℕ → List PageRef)
-    (start new : R) (result : Result V F)
-    → IsErr result → ((f : F) → AsksByBytes {R = R} {T = V} {E = F} told asked pages start new (Err f))
-    → AsksByBytes {R = R} {T = V} {E = F} told asked pages start new result
-asks_from_err told asked pages start new (Ok value) is each = absurd (cc)
-asks_from_err told asked pages start new (Err f) is each = each f
+-- the error is handed on
+pub asks_err : {R V : Type 0} (told : Option (List ℕ)) (gives : R → PageRef → R → Type 0) (fails : R → PageRef → PageFault → R → Type 0)
+    (pages : List ℕ → List PageRef) (start new : R) (f : ScanFault) (result : Result V ScanFault)
+    → IsErrAnd result (λ e. e ≡ f) → AsksByBytes {R = R} {T = V} told gives fails pages start new (Err f)
+    → AsksByBytes {R = R} {T = V} told gives fails pages start new result
+asks_err told gives fails pages start new f (Ok value) is asks = absurd is
+asks_err {R} {V} told gives fails pages start new f (Err e) is asks =
+    subst (λ (x : ScanFault). AsksByBytes {R = R} {T = V} told gives fails pages start new (Err x)) (sym is) asks
 
-pub asked_at_end : {R V F : Type 0} (told : Option (List ℕ)) (asked : R → PageRef → R → Type 0) (k : ℕ) (bound : ℕ → ℕ)
-    (score : ℕ → Option ℕ)
+pub asked_at_end : {R V : Type 0} (told : Option (List ℕ)) (gives : R → PageRef → R → Type 0) (fails : R → PageRef → PageFault → R → Type 0)
+    (k : ℕ) (bound : ℕ → ℕ) (score : ℕ → Option ℕ)
     (old : List ℕ → List Group) (pages : ℕ → List PageRef) (n : ℕ) (hits : List Hit) (start new : R) (value : V)
-    → HasAsked told asked (λ bytes. pages_in pages (take n (old bytes))) start new
+    → HasGiven told gives (λ bytes. pages_in pages (take n (old bytes))) start new
     → ForSome told (λ bytes. IsAnswer k bound score (old bytes) hits n)
-    → AsksByBytes {R = R} {T = V} {E = F} told asked (λ bytes. pages_visited k bound score pages (old bytes)) start new (Ok value)
-asked_at_end told asked k bound score old pages n hits start new value has answer = record {
-  asked_for = has.asked_for;
+    → AsksByBytes {R = R} {T = V} told gives fails (λ bytes. pages_visited k bound score pages (old bytes)) start new (Ok value)
+asked_at_end told gives fails k bound score old pages n hits start new value has answer = record {
+  given = has.given;
+  left = [];
+  between = new;
+  are_these = λ bytes at. append-nil has.given ∙ has.are_these bytes at
+      ∙ ap (λ (m : ℕ). pages_in pages (take m (old bytes))) (answer bytes at).least;
   in_turn = has.in_turn;
-  are_these = λ bytes at. has.are_these bytes at ∙ ap (λ (m : ℕ). pages_in pages (take m (old bytes))) (answer bytes at).least;
+  stops = (refl, refl);
 }
 
 pub answers_at_end : (told : Option (List ℕ)) (may now_may : ℕ → ℕ → Bool) (k : ℕ) (rules : Rules) (score : ℕ → Option ℕ)

@@ -1,10 +1,10 @@
 ghost use Rattle.std.specs.Prelude.{◌≡◌, ◌≤◌, ◌<◌, ◌^◌, [], ◌∷◌, ◌++◌, ℕ, true, All, IfOk};
 ghost use Rattle.std.specs.Option.{ForSome};
 ghost use Rattle.svr_num.specs.Hits.{best_hits, kth_score};
-ghost use Rattle.svr_postpage.specs.Reading.{AsksByBytes};
 ghost use Rattle.svr_listing.specs.Groups.{hits_of};
 ghost use Rattle.svr_listing.specs.Methods.{Rules};
 ghost use Rattle.svr_listing.specs.Visits.{IsAnswer, is_above, pages_visited};
+ghost use Rattle.svr_iter.specs.Asked.{AsksByBytes};
 ghost use Rattle.svr_iter.specs.Reader.{KeepsReader};
 ghost use Rattle.svr_topk.specs.Scan.{goes_on};
 ghost use Rattle.svr_topk.specs.Top.{IsTop};
@@ -89,8 +89,9 @@ pub fn scan<M: Method, P: Postings, S: Scores, R: PageReader>(
     ensures found { IfOk result (λ answer. ForSome (R.told reader.old) (λ bytes.
         IsAnswer k (M.rules method.now).bound (S.score_of scores.now) (P.groups matches.old bytes) answer.hits answer.groups)) }
 
-    // It asks for the pages of the groups that it visits, each once and for no others.
-    ensures asks { AsksByBytes (R.told reader.old) R.asked
+    // It asks for the pages of the groups that it visits, each once and for no others; after Ok all were given, and after a page's
+    // fault those before that page.
+    ensures asks { AsksByBytes (R.told reader.old) R.gives R.fails
         (λ bytes. pages_visited k (M.rules method.now).bound (S.score_of scores.now) (P.pages matches.old) (P.groups matches.old bytes))
         reader.old reader.new result }
     ensures reader { KeepsReader R.told R.ready R.faults reader.old reader.new result }

@@ -2,7 +2,7 @@ use Rattle.std.proofs.Common.{◌≡◌, ◌<◌, ◌≤◌, List, Option, ℕ, 
 use Rattle.std.proofs.lemmas.List.Kept.{IsStrictlyIncreasing-filter}
 use Rattle.svr_listing.specs.Joined.{is_in}
 use Rattle.svr_iter.specs.Layout.{TakesAt}
-use Rattle.svr_iter.proofs.Asking.{asks_from_err}
+use Rattle.svr_iter.proofs.Asking.{asks_err}
 use Rattle.svr_match.specs.Joined.{common_with}
 use Rattle.svr_match.proofs.Together.{common-more, common-none}
 use Rattle.svr_match.proofs.Turning.{Run-asks, Run-fault, Run-more, Run-start, Run-up_to}
@@ -26,8 +26,8 @@ keep_at-requires-clause-up_to g c =
 pub returns-in_err-keep_at-clause-asks : goal.returns-in_err-keep_at-clause-asks
 returns-in_err-keep_at-clause-asks g c =
     let lt : c.loop-list.list-index < length c.loop-list.list-items = omega (arith, c.loop-list-test.true, c.loop-list.auto.list-items) in
-    asks_from_err _ _ _ _ _ c.from_residual.ensures.0 (λ f.
-    Run-fault c.loop-list.invariant.run c.list-item.result _ f lt c.keep_at.ensures.asks)
+    asks_err _ _ _ _ _ _ c.from_residual.result c.from_residual.ensures.1
+    (Run-fault c.loop-list.invariant.run c.list-item.result _ lt c.in_err-keep_at.ensures.asks)
 
 pub loop-list-preserved : goal.loop-list-preserved
 loop-list-preserved g c =

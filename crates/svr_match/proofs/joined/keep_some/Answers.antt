@@ -3,10 +3,10 @@ use Rattle.std.proofs.lemmas.List.Kept.{IsStrictlyIncreasing-filter}
 use Rattle.svr_listing.specs.Joined.{is_in}
 use Rattle.svr_iter.specs.Layout.{TakesAt}
 use Rattle.svr_iter.specs.Merging.{Up-from}
-use Rattle.svr_iter.proofs.Asking.{asks_from_err, asks_nothing}
+use Rattle.svr_iter.proofs.Asking.{asks_err}
 use Rattle.svr_match.specs.Joined.{any_of}
 use Rattle.svr_match.proofs.Together.{some-more, some-none}
-use Rattle.svr_match.proofs.Turning.{Run-asks, Run-fault, Run-more, Run-start, Run-up_to}
+use Rattle.svr_match.proofs.Turning.{Run-asks, Run-fault, Run-memory, Run-memory-behind, Run-more, Run-start, Run-up_to}
 use Rattle.svr_match.proofs.joined.keep_some.Goals as goal
 
 pub loop-list-init : goal.loop-list-init
@@ -21,8 +21,8 @@ loop-list-init g c = record {
 pub returns-in_err-copy_ids-clause-asks : goal.returns-in_err-copy_ids-clause-asks
 returns-in_err-copy_ids-clause-asks g c =
     let lt : c.loop-list.list-index < length c.loop-list.list-items = omega (arith, c.loop-list-test.true, c.loop-list.auto.list-items) in
-    asks_from_err _ _ _ _ _ c.from_residual.ensures.0 (λ f.
-    Run-fault c.loop-list.invariant.run c.list-item.result _ f lt (asks_nothing {T = ℕ} _ _ _ f))
+    asks_err _ _ _ _ _ _ c.from_residual.result c.from_residual.ensures.1
+    (Run-memory c.loop-list.invariant.run c.list-item.result lt)
 
 pub keep_at-requires-clause-up_to : goal.keep_at-requires-clause-up_to
 keep_at-requires-clause-up_to g c =
@@ -32,8 +32,8 @@ keep_at-requires-clause-up_to g c =
 pub returns-in_err-keep_at-clause-asks : goal.returns-in_err-keep_at-clause-asks
 returns-in_err-keep_at-clause-asks g c =
     let lt : c.loop-list.list-index < length c.loop-list.list-items = omega (arith, c.loop-list-test.true, c.loop-list.auto.list-items) in
-    asks_from_err _ _ _ _ _ c.from_residual-in_err-keep_at.ensures.0 (λ f.
-    Run-fault c.loop-list.invariant.run c.list-item.result _ f lt c.keep_at.ensures.asks)
+    asks_err _ _ _ _ _ _ c.from_residual-in_err-keep_at.result c.from_residual-in_err-keep_at.ensures.1
+    (Run-fault c.loop-list.invariant.run c.list-item.result _ lt c.in_err-keep_at.ensures.asks)
 
 pub add_ids-requires-clause-ids : goal.add_ids-requires-clause-ids
 add_ids-requires-clause-ids g c = rw c.loop-list.invariant.run.holds (IsStrictlyIncreasing-filter _ c.args.ids.now c.requires.ascending)
@@ -46,8 +46,8 @@ add_ids-requires-clause-others g c =
 pub returns-in_err-add_ids-clause-asks : goal.returns-in_err-add_ids-clause-asks
 returns-in_err-add_ids-clause-asks g c =
     let lt : c.loop-list.list-index < length c.loop-list.list-items = omega (arith, c.loop-list-test.true, c.loop-list.auto.list-items) in
-    asks_from_err _ _ _ _ _ c.from_residual-in_err-add_ids.ensures.0 (λ f.
-    Run-fault c.loop-list.invariant.run c.list-item.result _ f lt c.in_ok-keep_at.ensures.asks)
+    asks_err _ _ _ _ _ _ c.from_residual-in_err-add_ids.result c.from_residual-in_err-add_ids.ensures.1
+    (Run-memory-behind c.loop-list.invariant.run c.list-item.result _ lt c.in_ok-keep_at.ensures.asks)
 
 pub loop-list-preserved : goal.loop-list-preserved
 loop-list-preserved g c =

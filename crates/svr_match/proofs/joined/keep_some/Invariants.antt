@@ -7,7 +7,7 @@ use Rattle.svr_match.proofs.joined.keep_some.Given as goal
 abbrev pub invariant-loop-list : goal.invariant-loop-list
 invariant-loop-list g l = record {
   run : Run g.P.Postings.groups g.P.Postings.next g.P.Postings.may g.P.Postings.pages
-      (g.R.PageReader.told l.fn.reader) g.R.PageReader.asked
+      (g.R.PageReader.told l.fn.reader) g.R.PageReader.gives
       l.key l.list-index l.fn.lists.items l.list-items l.fn.reader l.reader
       (λ all. l.kept.items ≡ filter (λ id. is_in id (any_of all)) l.ids);
   told : g.R.PageReader.told l.reader ≡ g.R.PageReader.told l.fn.reader;

@@ -1,12 +1,12 @@
 use Rattle.std.proofs.Common.{◌<◌, ◌≡◌, ◌≤◌, List, Option, ℕ, length, get_or, subst, arith, ◌∙◌}
 use Rattle.svr_iter.specs.Layout.{TakesAt}
 use Rattle.svr_iter.specs.Merging.{Up-to}
-use Rattle.svr_iter.proofs.Asking.{asks_from_err}
+use Rattle.svr_iter.proofs.Asking.{asks_err}
 use Rattle.svr_match.specs.Joined.{any_of}
 use Rattle.svr_match.specs.JoinedLaws.{any-up}
 use Rattle.svr_match.proofs.Matching.{ids_in}
 use Rattle.svr_match.proofs.Together.{any-more}
-use Rattle.svr_match.proofs.Turning.{Run-asks, Run-fault, Run-more, Run-up_to}
+use Rattle.svr_match.proofs.Turning.{Run-asks, Run-fault, Run-memory-behind, Run-more, Run-up_to}
 use Rattle.svr_match.proofs.joined.take_each.Goals as goal
 
 pub take_at-requires-clause-up_to : goal.take_at-requires-clause-up_to
@@ -17,8 +17,8 @@ take_at-requires-clause-up_to g c =
 pub returns-in_err-take_at-clause-asks : goal.returns-in_err-take_at-clause-asks
 returns-in_err-take_at-clause-asks g c =
     let lt : c.loop-list.list-index < length c.loop-list.list-items = omega (arith, c.loop-list-test.true, c.loop-list.auto.list-items) in
-    asks_from_err _ _ _ _ _ c.from_residual.ensures.0 (λ f.
-    Run-fault c.loop-list.invariant.run c.list-item.result _ f lt c.take_at.ensures.asks)
+    asks_err _ _ _ _ _ _ c.from_residual.result c.from_residual.ensures.1
+    (Run-fault c.loop-list.invariant.run c.list-item.result _ lt c.in_err-take_at.ensures.asks)
 
 pub add_ids-requires-clause-ids : goal.add_ids-requires-clause-ids
 add_ids-requires-clause-ids g c =
@@ -28,8 +28,8 @@ add_ids-requires-clause-ids g c =
 pub returns-in_err-add_ids-clause-asks : goal.returns-in_err-add_ids-clause-asks
 returns-in_err-add_ids-clause-asks g c =
     let lt : c.loop-list.list-index < length c.loop-list.list-items = omega (arith, c.loop-list-test.true, c.loop-list.auto.list-items) in
-    asks_from_err _ _ _ _ _ c.from_residual-in_err-add_ids.ensures.0 (λ f.
-    Run-fault c.loop-list.invariant.run c.list-item.result _ f lt c.in_ok-take_at.ensures.asks)
+    asks_err _ _ _ _ _ _ c.from_residual-in_err-add_ids.result c.from_residual-in_err-add_ids.ensures.1
+    (Run-memory-behind c.loop-list.invariant.run c.list-item.result _ lt c.in_ok-take_at.ensures.asks)
 
 pub loop-list-preserved : goal.loop-list-preserved
 loop-list-preserved g c =

@@ -5,7 +5,7 @@ use Rattle.svr_listing.proofs.Visiting.{SoFar-start}
 use Rattle.svr_topk.specs.Scan.{goes_on}
 use Rattle.svr_topk.specs.Top.{Top}
 use Rattle.svr_topk.proofs.Ranking.{IsTop-best, IsTop-nil}
-use Rattle.svr_topk.proofs.Searching.{KeepsPages-more, answers_at_end, asks_from_err, asked-fault, asked-more, asked_at_end, goes_on-some, nothing_asked, pages_here, room, room-fits, room-less, so_far-more}
+use Rattle.svr_topk.proofs.Searching.{KeepsPages-more, answers_at_end, asked_at_end, asks_err, given-fault, given-more, goes_on-some, nothing_asked, pages_here, room, room-fits, room-less, so_far-more}
 use Rattle.svr_topk.proofs.search.scan.Goals as goal
 
 pub returns-in-Err-clause-asks : goal.returns-in-Err-clause-asks
@@ -22,7 +22,7 @@ groups-init g c =
       room = omega arith;
       may = refl;
       pages = λ key lt. refl;
-      asked = record { asked_for = []; in_turn = refl; are_these = λ bytes told. refl };
+      given = record { given = []; in_turn = refl; are_these = λ bytes told. refl };
       told = refl;
       ready = c.requires.ready;
       later = omega arith;
@@ -35,15 +35,15 @@ returns-in_err-take_group-clause-asks g c =
     subst (λ (m : ℕ). goes_on (g.P.Postings.next c.groups.matches) (g.M.Method.rules c.args.method.now).bound
     (kth_score m c.groups.top.hits) ≡ true)
     c.groups.invariant.top_k (sym c.has_to_go_on.ensures ∙ c.groups-test.true) in
-    asks_from_err _ _ _ _ _ _ c.from_residual.ensures.0 (λ f.
-    asked-fault (g.R.PageReader.told c.args.reader.now) g.R.PageReader.asked (g.P.Postings.may c.groups.matches) c.args.k
+    asks_err _ _ _ _ _ _ _ c.from_residual.result c.from_residual.ensures.1
+    (given-fault (g.R.PageReader.told c.args.reader.now) g.R.PageReader.gives g.R.PageReader.fails (g.P.Postings.may c.groups.matches) c.args.k
     (g.M.Method.rules c.args.method.now).bound (g.S.Scores.score_of c.args.scores.now)
     (g.P.Postings.groups c.args.matches.now) (g.P.Postings.groups c.groups.matches)
     (g.P.Postings.pages c.args.matches.now) (g.P.Postings.pages c.groups.matches) c.groups.groups c.groups.top.hits
-    (g.P.Postings.next c.groups.matches) _ _ _ _ f
+    (g.P.Postings.next c.groups.matches) _ _ _
     c.groups.invariant.so_far (λ bytes. g.met.P.Postings.lawful c.groups.matches bytes) goes
     (pages_here _ _ _ _ _ goes c.groups.invariant.pages)
-    c.groups.invariant.asked c.in_err-take_group.ensures.asks)
+    c.groups.invariant.given _ c.in_err-take_group.ensures.asks)
 
 pub groups-preserved : goal.groups-preserved
 groups-preserved g c =
@@ -70,14 +70,15 @@ groups-preserved g c =
       may = c.in_ok-take_group.ensures.takes.same_may ∙ c.groups.invariant.may;
       pages = KeepsPages-more _ _ _ _ _ c.groups.invariant.pages c.in_ok-take_group.ensures.takes.same_pages
           c.in_ok-take_group.ensures.takes.next_less;
-      asked = asked-more (g.R.PageReader.told c.args.reader.now) g.R.PageReader.asked (g.P.Postings.may c.groups.matches) c.args.k
+      given = given-more (g.R.PageReader.told c.args.reader.now) g.R.PageReader.gives g.R.PageReader.fails (g.P.Postings.may c.groups.matches)
+          c.args.k
           (g.M.Method.rules c.args.method.now).bound (g.S.Scores.score_of c.args.scores.now)
           (g.P.Postings.groups c.args.matches.now) (g.P.Postings.groups c.groups.matches)
           (g.P.Postings.pages c.args.matches.now) (g.P.Postings.pages c.groups.matches) c.groups.groups c.groups.top.hits
-          (g.P.Postings.next c.groups.matches) _ _ _ _
+          (g.P.Postings.next c.groups.matches) _ _ _
           c.groups.invariant.so_far (λ bytes. g.met.P.Postings.lawful c.groups.matches bytes) goes
           (pages_here _ _ _ _ _ goes c.groups.invariant.pages)
-          c.groups.invariant.asked c.in_ok-take_group.ensures.asks;
+          c.groups.invariant.given _ c.in_ok-take_group.ensures.asks;
       told = c.in_ok-take_group.ensures.reader.same_told ∙ c.groups.invariant.told;
       ready = c.in_ok-take_group.ensures.reader.is_ready;
       later = omega (arith, c.in_ok-take_group.ensures.reader.later, c.groups.invariant.later);
@@ -101,6 +102,6 @@ returns-clause-found g c =
 
 pub returns-clause-asks : goal.returns-clause-asks
 returns-clause-asks g c =
-    asked_at_end (g.R.PageReader.told c.args.reader.now) g.R.PageReader.asked c.args.k
+    asked_at_end (g.R.PageReader.told c.args.reader.now) g.R.PageReader.gives g.R.PageReader.fails c.args.k
     (g.M.Method.rules c.args.method.now).bound (g.S.Scores.score_of c.args.scores.now) (g.P.Postings.groups c.args.matches.now)
-    (g.P.Postings.pages c.args.matches.now) c.groups.groups _ _ _ _ c.groups.invariant.asked (returns-clause-found g c)
+    (g.P.Postings.pages c.args.matches.now) c.groups.groups _ _ _ _ c.groups.invariant.given (returns-clause-found g c)

@@ -1,9 +1,8 @@
-use Rattle.std.proofs.Common.{◌≡◌, ℕ, true, List, refl, sym, subst, ap, ◌∙◌}
+use Rattle.std.proofs.Common.{◌≡◌, ℕ, true, List, sym, subst, ap, ◌∙◌}
 use Rattle.svr_idmap.specs.Ids.{value_at}
 use Rattle.svr_iter.specs.Effective.{Tells}
 use Rattle.svr_iter.specs.Marks.{is_listed}
 use Rattle.svr_iter.specs.MemPairs.{grouped}
-use Rattle.svr_listing.specs.declared.group.Group.{Group}
 use Rattle.svr_long.specs.Cursor.{page_pairs, pages_of_key, pairs_from}
 use Rattle.svr_long.specs.Heads.{are_heads}
 use Rattle.svr_postpage.specs.declared.page_ref.PageRef.{PageRef}

@@ -1,4 +1,4 @@
-use Rattle.std.proofs.Common.{Option, refl, sym, subst, ap, true, ◌≡◌, ◌∙◌}
+use Rattle.std.proofs.Common.{refl, sym, subst, ap, true, ◌≡◌, ◌∙◌}
 use Rattle.svr_idmap.specs.Ids.{value_at}
 use Rattle.svr_index.specs.Index.{Indexed, StandsBut, is_moved}
 use Rattle.svr_index.proofs.Placing.{places}

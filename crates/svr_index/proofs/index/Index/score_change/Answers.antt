@@ -1,4 +1,4 @@
-use Rattle.std.proofs.Common.{Bool, cond, ℕ, Some, refl, sym, ap, ◌∙◌}
+use Rattle.std.proofs.Common.{Bool, cond, ℕ, Some, refl, ap, ◌∙◌}
 use Rattle.svr_index.specs.Index.{Indexed}
 use Rattle.svr_index.proofs.Following.{follows-moved, follows-stays, rules-key, rules-stay, unedited, was_listed}
 use Rattle.svr_listing.specs.Changes.{moved_to}

@@ -1,5 +1,5 @@
-use Rattle.std.proofs.Common.{rules, ◌≡◌, ◌++◌, ℕ, List, Option, Some, IsErr, drop, refl, sym, subst, arith, ◌∙◌}
-use Rattle.svr_iter.proofs.Asking.{asks_from_err}
+use Rattle.std.proofs.Common.{rules, ◌≡◌, ◌++◌, ℕ, List, Option, Some, drop, refl, sym, subst, arith, ◌∙◌}
+use Rattle.svr_iter.proofs.Asking.{asks_err}
 use Rattle.svr_postpage.specs.declared.page_ref.PageRef.{PageRef}
 use Rattle.svr_postpage.specs.declared.pair.Pair.{Pair}
 use Rattle.svr_long.specs.Cursor.{first_key_of}
@@ -15,9 +15,9 @@ loop-self-init g c =
     let pages : List PageRef = drop c.args.self.now.at c.args.self.now.pages.now in
     let first : first_key_of (pairs ++ heads pages) ≡ Some c.in-Some.key = search rules in
     record {
-      run = subst (λ (ids : List ℕ). Run g.R.PageReader.asked (g.R.PageReader.told c.args.reader.now) c.in-Some.key pairs pages c.args.reader.now
+      run = subst (λ (ids : List ℕ). Run g.R.PageReader.gives (g.R.PageReader.told c.args.reader.now) c.in-Some.key pairs pages c.args.reader.now
           pairs pages ids c.args.reader.now) (sym {A = List ℕ} c.clear.ensures.items)
-          (Run-start g.R.PageReader.asked (g.R.PageReader.told c.args.reader.now) c.in-Some.key pairs pages c.args.reader.now
+          (Run-start g.R.PageReader.gives (g.R.PageReader.told c.args.reader.now) c.in-Some.key pairs pages c.args.reader.now
           c.args.self.now.in_order first);
       told = refl;
       ready = c.requires.ready;
@@ -26,7 +26,7 @@ loop-self-init g c =
 
 pub loop-self-smaller : goal.loop-self-smaller
 loop-self-smaller g c =
-    Steps-less g.R.PageReader.asked (g.R.PageReader.told c.loop-self.reader) c.loop-self.self.buffer c.step.new.self.buffer
+    Steps-less g.R.PageReader.gives (g.R.PageReader.told c.loop-self.reader) c.loop-self.self.buffer c.step.new.self.buffer
     (drop c.loop-self.self.at c.loop-self.self.pages.now) (drop c.step.new.self.at c.step.new.self.pages.now) c.loop-self.ids.items
     c.step.new.ids.items c.loop-self.reader c.step.new.reader c.in_ok-step.ensures.steps
 
@@ -35,13 +35,13 @@ loop-self-preserved g c =
     let pairs : List Pair = c.loop-self.self.buffer in
     let pages : List PageRef = drop c.loop-self.self.at c.loop-self.self.pages.now in
     let here : first_key_of (pairs ++ heads pages) ≡ Some c.in-Some.key = search rules in
-    let steps : Steps g.R.PageReader.asked (g.R.PageReader.told c.args.reader.now) pairs pages c.step.new.self.buffer
+    let steps : Steps g.R.PageReader.gives (g.R.PageReader.told c.args.reader.now) pairs pages c.step.new.self.buffer
     (drop c.step.new.self.at c.step.new.self.pages.now) c.loop-self.ids.items c.step.new.ids.items c.loop-self.reader c.step.new.reader =
-    subst (λ (told : Option (List ℕ)). Steps g.R.PageReader.asked told pairs pages c.step.new.self.buffer
+    subst (λ (told : Option (List ℕ)). Steps g.R.PageReader.gives told pairs pages c.step.new.self.buffer
     (drop c.step.new.self.at c.step.new.self.pages.now) c.loop-self.ids.items c.step.new.ids.items c.loop-self.reader c.step.new.reader)
     c.loop-self.invariant.told c.in_ok-step.ensures.steps in
     record {
-      run = Run-step g.R.PageReader.asked (g.R.PageReader.told c.args.reader.now) c.in-Some.key c.args.self.now.buffer
+      run = Run-step g.R.PageReader.gives (g.R.PageReader.told c.args.reader.now) c.in-Some.key c.args.self.now.buffer
           (drop c.args.self.now.at c.args.self.now.pages.now) c.args.reader.now pairs c.step.new.self.buffer pages
           (drop c.step.new.self.at c.step.new.self.pages.now) c.loop-self.ids.items c.step.new.ids.items c.loop-self.reader c.step.new.reader
           here steps c.loop-self.invariant.run;
@@ -56,11 +56,10 @@ returns-in_err-step-clause-asks g c =
     let pages : List PageRef = drop c.args.self.now.at c.args.self.now.pages.now in
     let first : first_key_of (pairs ++ heads pages) ≡ Some c.in-Some.key = search rules in
     let here : first_key_of (c.loop-self.self.buffer ++ heads (drop c.loop-self.self.at c.loop-self.self.pages.now)) ≡ Some c.in-Some.key = search rules in
-    let is : IsErr c.from_residual.result = search rules in
-    asks_from_err g.R.PageReader.asked _ c.args.reader.now c.step.new.reader c.from_residual.result is
-    (λ f. Run-fault g.R.PageReader.asked (g.R.PageReader.told c.args.reader.now) c.in-Some.key pairs pages c.args.reader.now
+    asks_err g.R.PageReader.gives g.R.PageReader.fails _ c.args.reader.now c.step.new.reader _ c.from_residual.result c.from_residual.ensures.1
+    (Run-fault g.R.PageReader.gives (g.R.PageReader.told c.args.reader.now) c.in-Some.key pairs pages c.args.reader.now
     c.loop-self.self.buffer (drop c.loop-self.self.at c.loop-self.self.pages.now) c.loop-self.ids.items c.loop-self.reader
-    c.args.self.now.in_order first c.loop-self.invariant.run f c.step.new.reader here c.step.ensures.asks)
+    c.args.self.now.in_order first c.loop-self.invariant.run g.R.PageReader.fails _ c.step.new.reader here c.in_err-step.ensures.fails)
 
 pub returns-clause-takes : goal.returns-clause-takes
 returns-clause-takes g c =
@@ -72,14 +71,14 @@ returns-clause-takes g c =
     let over : first_key_of (left ++ heads rest) ≡ Some c.in-Some.key → ⊥ =
     λ e. other_key c.next_key-in-loop-self.result c.in-Some.key c.loop-self-test.ensures (c.next_key-in-loop-self.ensures.key ∙ e) in
     record {
-      first = Run-first g.R.PageReader.asked (g.R.PageReader.told c.args.reader.now) c.in-Some.key pairs pages c.args.reader.now left rest
+      first = Run-first g.R.PageReader.gives (g.R.PageReader.told c.args.reader.now) c.in-Some.key pairs pages c.args.reader.now left rest
           c.loop-self.ids.items c.loop-self.reader c.args.self.now.in_order first c.loop-self.invariant.run over;
-      lawful = Run-group g.R.PageReader.asked (g.R.PageReader.told c.args.reader.now) c.in-Some.key pairs pages c.args.reader.now left rest
+      lawful = Run-group g.R.PageReader.gives (g.R.PageReader.told c.args.reader.now) c.in-Some.key pairs pages c.args.reader.now left rest
           c.loop-self.ids.items c.loop-self.reader c.args.self.now.in_order first c.loop-self.invariant.run;
-      next_less = Run-less g.R.PageReader.asked (g.R.PageReader.told c.args.reader.now) c.in-Some.key pairs pages c.args.reader.now left rest
+      next_less = Run-less g.R.PageReader.gives (g.R.PageReader.told c.args.reader.now) c.in-Some.key pairs pages c.args.reader.now left rest
           c.loop-self.ids.items c.loop-self.reader c.args.self.now.in_order first c.loop-self.invariant.run over;
       same_may = refl;
-      same_pages = Run-pages g.R.PageReader.asked (g.R.PageReader.told c.args.reader.now) c.in-Some.key pairs pages c.args.reader.now left rest
+      same_pages = Run-pages g.R.PageReader.gives (g.R.PageReader.told c.args.reader.now) c.in-Some.key pairs pages c.args.reader.now left rest
           c.loop-self.ids.items c.loop-self.reader c.args.self.now.in_order first c.loop-self.invariant.run;
     }
 
@@ -92,5 +91,5 @@ returns-clause-asks g c =
     let first : first_key_of (pairs ++ heads pages) ≡ Some c.in-Some.key = search rules in
     let over : first_key_of (left ++ heads rest) ≡ Some c.in-Some.key → ⊥ =
     λ e. other_key c.next_key-in-loop-self.result c.in-Some.key c.loop-self-test.ensures (c.next_key-in-loop-self.ensures.key ∙ e) in
-    Run-asks g.R.PageReader.asked (g.R.PageReader.told c.args.reader.now) c.in-Some.key pairs pages c.args.reader.now left rest
-    c.loop-self.ids.items c.loop-self.reader c.args.self.now.in_order first c.loop-self.invariant.run over tt
+    Run-asks g.R.PageReader.gives (g.R.PageReader.told c.args.reader.now) c.in-Some.key pairs pages c.args.reader.now left rest
+    c.loop-self.ids.items c.loop-self.reader c.args.self.now.in_order first c.loop-self.invariant.run over g.R.PageReader.fails tt

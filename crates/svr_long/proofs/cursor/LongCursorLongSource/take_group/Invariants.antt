@@ -4,7 +4,7 @@ use Rattle.svr_long.proofs.cursor.LongCursorLongSource.take_group.Given as goal
 
 abbrev pub invariant-loop-self : goal.invariant-loop-self
 invariant-loop-self g l = record {
-  run : Run g.R.PageReader.asked (g.R.PageReader.told l.fn.reader) l.key l.fn.self.buffer (drop l.fn.self.at l.fn.self.pages.now) l.fn.reader
+  run : Run g.R.PageReader.gives (g.R.PageReader.told l.fn.reader) l.key l.fn.self.buffer (drop l.fn.self.at l.fn.self.pages.now) l.fn.reader
       l.self.buffer (drop l.self.at l.self.pages.now) l.ids.items l.reader;
   told : g.R.PageReader.told l.reader ≡ g.R.PageReader.told l.fn.reader;
   ready : g.R.PageReader.ready l.reader;

@@ -3,9 +3,9 @@ use Rattle.std.specs.List.{flat_map}
 use Rattle.std.specs.Result.{OnOk}
 use Rattle.std.proofs.lemmas.List.Kept.{IsStrictlyIncreasing-filter}
 use Rattle.std.proofs.lemmas.Result.{on_ok_weaker}
-use Rattle.svr_postpage.specs.Reading.{Asks}
 use Rattle.svr_listing.specs.Joined.{is_in}
-use Rattle.svr_iter.proofs.Asking.{asked_both}
+use Rattle.svr_iter.specs.Asked.{Asks}
+use Rattle.svr_iter.proofs.Asking.{asks_both, asks_err, asks_first}
 use Rattle.svr_iter.proofs.Choosing.{all_up_to, up_to_own}
 use Rattle.svr_match.specs.Joined.{common_of, common_with}
 use Rattle.svr_match.proofs.Matching.{all_taken, ids_in, with_first}
@@ -49,8 +49,17 @@ returns-in_ok-keep_at-in-Some-clause-keeps g c = on_ok c.keep_each.result c.keep
 
 pub returns-in_ok-keep_at-in-Some-clause-asks : goal.returns-in_ok-keep_at-in-Some-clause-asks
 returns-in_ok-keep_at-in-Some-clause-asks g c =
-    subst (λ (o : Option ℕ). Asks g.R.PageReader.asked
+    subst (λ (o : Option ℕ). Asks g.R.PageReader.gives g.R.PageReader.fails
     (flat_map (λ p. g.P.Postings.pages p (unwrap_or o 0)) (c.args.self.now.first ∷ c.args.self.now.others.items)) c.args.reader.now
     c.keep_each.new.reader c.keep_each.result)
-    c.in-Some.ensures.key (asked_both g.R.PageReader.asked _ _ c.args.reader.now c.keep_at.new.reader c.keep_each.new.reader _
+    c.in-Some.ensures.key (asks_both g.R.PageReader.gives g.R.PageReader.fails _ _ c.args.reader.now c.keep_at.new.reader c.keep_each.new.reader _
     c.keep_each.result c.in_ok-keep_at-in-Some.ensures.asks c.keep_each.ensures.asks)
+
+pub returns-in_err-keep_at-in-Some-clause-asks : goal.returns-in_err-keep_at-in-Some-clause-asks
+returns-in_err-keep_at-in-Some-clause-asks g c =
+    subst (λ (o : Option ℕ). Asks g.R.PageReader.gives g.R.PageReader.fails
+    (flat_map (λ p. g.P.Postings.pages p (unwrap_or o 0)) (c.args.self.now.first ∷ c.args.self.now.others.items)) c.args.reader.now
+    c.keep_at.new.reader c.from_residual.result)
+    c.in-Some.ensures.key (asks_err g.R.PageReader.gives g.R.PageReader.fails _ c.args.reader.now c.keep_at.new.reader _ c.from_residual.result
+    c.from_residual.ensures.1 (asks_first g.R.PageReader.gives g.R.PageReader.fails _ _ c.args.reader.now c.keep_at.new.reader _
+    c.in_err-keep_at-in-Some.ensures.asks))
