@@ -1,6 +1,5 @@
 //! What calls ask for, tested before they are made.
-ghost use Rattle.std.specs.Prelude.{◌≡◌, ◌≤◌, ◌<◌, ◌^◌, ◌↔◌, ℕ, All, IsTrue, true, option_map};
-ghost use Rattle.std.specs.List.Sorted.{IsStrictlyIncreasing};
+ghost use Rattle.std.specs.Prelude.{◌≡◌, ◌≤◌, ◌<◌, ◌^◌, All, true, option_map};
 ghost use Rattle.svr_index.specs.Search.{AreWithinBounds};
 ghost use Rattle.svr_listing.specs.Merges.{is_after};
 ghost use Rattle.svr_listing.specs.Plain.{HasDivisor};
@@ -12,7 +11,7 @@ use svr_edge::Text;
 use svr_index::Index;
 use svr_listing::ListingMethod;
 use svr_method::Method;
-use svr_num::{DocId, Hit, SCORE_MAX};
+use svr_num::{Hit, SCORE_MAX};
 use svr_schema::MethodSpec;
 
 /// Whether the numbers of a method are in their ranges.
@@ -50,18 +49,6 @@ pub fn have_scores(hits: &[Hit]) -> bool
     ensures { result ≡ true → All (λ d. d.score ≤ SCORE_MAX) hits.now }
 {
     hits.iter().all(|hit| hit.score <= SCORE_MAX)
-}
-
-/// Whether each id is below the next one.
-pub fn ascend(ids: &[DocId]) -> bool
-    ensures { IsTrue result ↔ IsStrictlyIncreasing ids.now }
-{
-    for at in 0..ids.len() {
-        if at + 1 < ids.len() && ids[at] >= ids[at + 1] {
-            return false;
-        }
-    }
-    true
 }
 
 /// Whether a term stands behind another, if there is one.

@@ -4,7 +4,7 @@ ghost use Rattle.std.specs.Prelude.{◌<◌};
 use crate::over_pages::asked::has_divisor;
 use crate::over_pages::shop::{Shop, texts_of};
 use crate::over_pages::stop::Stop;
-use crate::over_pages::told::{damage_of, groups_by_bytes, pages_of};
+use crate::over_pages::told::{damage_of, docs_by_bytes, groups_by_bytes, pages_of};
 use crate::search::Table;
 use std::alloc::Global;
 use svr_edge::{Memory, Text};
@@ -125,16 +125,36 @@ fn is_right(
     is_whole(alloc, &shop.plain.listing, &scores, &terms, query, answer)
 }
 
+/// Whether a page of a term has this damage.
+fn has_damage(shop: &Shop, term: &Text, at: u64, why: Damage) -> bool {
+    let bytes = shop.shelf.bytes();
+    pages_of(&shop.plain.listing, term).iter().any(|page| page.head.at == at
+        && damage_of(bytes, &page.head) == Some(why))
+}
+
 /// Whether a page of one of the terms has this damage.
-fn has_damage(shop: &Shop, terms: &Tokens, at: u64, why: Damage) -> bool {
+fn have_damage(shop: &Shop, terms: &Tokens, at: u64, why: Damage) -> bool {
     for i in 0..terms.len() {
-        for page in pages_of(&shop.plain.listing, terms.get(i)) {
-            if page.head.at == at && damage_of(shop.shelf.bytes(), &page.head) == Some(why) {
-                return true;
-            }
+        if has_damage(shop, terms.get(i), at, why) {
+            return true;
         }
     }
     false
+}
+
+/// Whether the documents under a term are those that stand there by the bytes, or the damage of a page is told.
+pub fn is_gathered(alloc: Global, shop: &mut Shop, term: &str) -> Result<bool, Stop> {
+    let term = Text::new(alloc, term)?;
+    match shop.shelf.docs(alloc, &shop.index, &term) {
+        Ok(ids) => {
+            let told = docs_by_bytes(alloc, &shop.plain.listing, shop.shelf.bytes(), &term)?;
+            Ok(ids.as_slice() == told.as_slice())
+        }
+        Err(ScanFault::Page(PageFault::Damaged { at, why })) => {
+            Ok(has_damage(shop, &term, at, why))
+        }
+        Err(fault) => Err(Stop::Scan(fault)),
+    }
 }
 
 /// Whether a search answers what is right, or tells the damage of a page.
@@ -143,7 +163,7 @@ pub fn is_served(alloc: Global, shop: &mut Shop, query: &Query) -> Result<bool, 
     match shop.search(alloc, &terms, query.mode, query.k) {
         Ok(answer) => Ok(is_right(alloc, shop, &terms, query, &answer)?),
         Err(Stop::Scan(ScanFault::Page(PageFault::Damaged { at, why }))) => {
-            Ok(has_damage(shop, &terms, at, why))
+            Ok(have_damage(shop, &terms, at, why))
         }
         Err(stop) => Err(stop),
     }

@@ -71,11 +71,7 @@ fn bounds_of(
 }
 
 /// The method of a schema for documents with these scores.
-fn method_of(
-    alloc: Global,
-    spec: &MethodSpec,
-    scores: &[Score],
-) -> Result<ListingMethod, Memory> {
+fn method_of(alloc: Global, spec: &MethodSpec, scores: &[Score]) -> Result<ListingMethod, Memory> {
     match *spec {
         MethodSpec::Id => Ok(ListingMethod::Id),
         MethodSpec::Score => Ok(ListingMethod::Score),
@@ -133,7 +129,9 @@ impl Plain {
 
     /// A document, if it is there.
     pub fn document(&self, id: DocId) -> Option<&Listed> {
-        self.documents().iter().find(|listed| listed.document.id == id)
+        self.documents()
+            .iter()
+            .find(|listed| listed.document.id == id)
     }
 
     /// Whether a document is there with this score and text.

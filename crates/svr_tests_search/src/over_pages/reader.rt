@@ -1,6 +1,7 @@
 ghost use Rattle.std.specs.Prelude.{◌≡◌, take};
 ghost use Rattle.std.specs.Option.{option_map};
-ghost use Rattle.svr_pages.specs.Asked.{Asked, IsReady};
+ghost use Rattle.svr_pages.specs.Asked.{Fails, Gives, IsReady};
+ghost use Rattle.svr_pages.specs.Told.{Fails-tells, Gives-same, Gives-sound};
 
 use svr_edge::Disk;
 use svr_pages::{Pages, Reader};
@@ -22,7 +23,16 @@ impl<D: Disk> PageReader for OwnReader<D> {
 
     ghost ready = { λ r. IsReady r.reach (D.view r.disk) r.pages };
 
-    ghost asked = { λ old want new. Asked D.view old.reach want old.disk new.disk old.pages new.pages × (new.reach ≡ old.reach) };
+    ghost gives = { λ old want new. Gives D.view old.reach want old.disk new.disk old.pages new.pages × (new.reach ≡ old.reach) };
+
+    ghost fails = { λ old want why new. Fails D.view old.reach want old.disk new.disk old.pages new.pages why × (new.reach ≡ old.reach) };
+
+    ghost sound = { λ old want new given. Gives-sound D.view old.reach want old.disk new.disk old.pages new.pages given.0 };
+
+    ghost same_told = { λ old want new given. Gives-same D.view old.reach want old.disk new.disk old.pages new.pages new.reach
+        given.0 given.1 };
+
+    ghost faulty = { λ old want why new failed. Fails-tells D.view old.reach want old.disk new.disk old.pages new.pages why failed.0 };
 
     fn page(&mut self, want: &PageRef, into: &mut [u8; 4096]) -> Result<(), PageFault> {
         let mut reader = Reader {

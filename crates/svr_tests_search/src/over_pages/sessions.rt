@@ -1,5 +1,5 @@
 //! Random sessions, of which each search is compared with that of the plain listing.
-use crate::over_pages::check::{Query, is_served};
+use crate::over_pages::check::{Query, is_gathered, is_served};
 use crate::over_pages::shop::Shop;
 use crate::over_pages::stop::Stop;
 use rand_core::utils::NextWord;
@@ -63,7 +63,7 @@ const SHORT_PLAYS: &[Play] = &[
         spec: MethodSpec::Id,
         size: FEW,
         cache: 0,
-        damages: 20,
+        damages: 8,
     },
     Play {
         spec: MethodSpec::Id,
@@ -75,7 +75,7 @@ const SHORT_PLAYS: &[Play] = &[
         spec: MethodSpec::Score,
         size: FEW,
         cache: 0,
-        damages: 20,
+        damages: 8,
     },
     Play {
         spec: MethodSpec::Score,
@@ -87,7 +87,7 @@ const SHORT_PLAYS: &[Play] = &[
         spec: THRESHOLD,
         size: FEW,
         cache: 0,
-        damages: 20,
+        damages: 8,
     },
     Play {
         spec: THRESHOLD,
@@ -99,7 +99,7 @@ const SHORT_PLAYS: &[Play] = &[
         spec: CHUNK,
         size: FEW,
         cache: 0,
-        damages: 20,
+        damages: 8,
     },
     Play {
         spec: CHUNK,
@@ -149,7 +149,7 @@ fn below(rng: &mut Pcg32, bound: u32) -> u32 {
 /// Some of six words.
 fn words(alloc: Global, rng: &mut Pcg32, most: u32) -> Result<String, AllocError> {
     let mut text = String::new(alloc);
-    for _ in 0..1 + below(rng, most) {
+    for _ in 0..below(rng, most).saturating_add(1) {
         let word = ["a ", "b ", "c ", "d ", "e ", "a b "][below(rng, 6) as usize % 6];
         text.push_str(word)?;
     }
@@ -186,7 +186,7 @@ fn merge_step(alloc: Global, rng: &mut Pcg32, shop: &mut Shop) -> Result<(), Sto
     if shop.left(alloc)? == 0 {
         return shop.publish(alloc);
     }
-    shop.slice(alloc, 1 + below(rng, 3))
+    shop.slice(alloc, below(rng, 3).saturating_add(1))
 }
 
 /// Any step.
@@ -204,10 +204,14 @@ fn is_searched(alloc: Global, rng: &mut Pcg32, shop: &mut Shop) -> Result<bool, 
     let text = words(alloc, rng, 2)?;
     let query = Query {
         words: text.as_str(),
-        mode: if below(rng, 2) == 0 { Mode::All } else { Mode::Any },
+        mode: if below(rng, 2) == 0 {
+            Mode::All
+        } else {
+            Mode::Any
+        },
         k: [1, 2, 3, 10, 300, 1000][below(rng, 6) as usize % 6],
     };
-    is_served(alloc, shop, &query)
+    Ok(is_served(alloc, shop, &query)? && is_gathered(alloc, shop, "a")?)
 }
 
 /// The posted pages of all terms.
@@ -251,12 +255,7 @@ fn stock(alloc: Global, rng: &mut Pcg32, play: &Play) -> Result<Shop, Stop> {
 }
 
 /// Plays the steps, and answers whether all searches were served.
-fn are_stepped(
-    alloc: Global,
-    rng: &mut Pcg32,
-    shop: &mut Shop,
-    play: &Play,
-) -> Result<bool, Stop> {
+fn are_stepped(alloc: Global, rng: &mut Pcg32, shop: &mut Shop, play: &Play) -> Result<bool, Stop> {
     for _ in 0..play.size.steps {
         step(alloc, rng, shop, play)?;
         if !shop.has_entries() || !is_searched(alloc, rng, shop)? {
@@ -266,13 +265,42 @@ fn are_stepped(
     Ok(true)
 }
 
+/// What searches told since bytes were changed.
+#[derive(Clone, Copy)]
+struct Tally {
+    answers: u32,
+    damages: u32,
+}
+
+/// Searches, and counts what was told. `false` where it was wrong.
+fn is_counted(
+    alloc: Global,
+    rng: &mut Pcg32,
+    shop: &mut Shop,
+    tally: &mut Tally,
+) -> Result<bool, Stop> {
+    let is_right = is_searched(alloc, rng, shop)?;
+    if shop.is_damaged {
+        tally.damages = tally.damages.saturating_add(1);
+    } else {
+        tally.answers = tally.answers.saturating_add(1);
+    }
+    Ok(is_right)
+}
+
 /// Changes bytes of pages, and answers whether all searches were served.
-fn are_damaged(alloc: Global, rng: &mut Pcg32, shop: &mut Shop, play: &Play) -> Result<bool, Stop> {
+fn are_damaged(
+    alloc: Global,
+    rng: &mut Pcg32,
+    shop: &mut Shop,
+    play: &Play,
+    tally: &mut Tally,
+) -> Result<bool, Stop> {
     for _ in 0..play.damages {
         damage(alloc, rng, shop)?;
         rescore(alloc, rng, shop, play)?;
         for _ in 0..3 {
-            if !is_searched(alloc, rng, shop)? {
+            if !is_counted(alloc, rng, shop, tally)? {
                 return Ok(false);
             }
         }
@@ -281,34 +309,51 @@ fn are_damaged(alloc: Global, rng: &mut Pcg32, shop: &mut Shop, play: &Play) -> 
 }
 
 /// Whether all searches of a session are served.
-fn is_played(alloc: Global, rng: &mut Pcg32, play: &Play) -> Result<bool, Stop> {
+fn is_played(alloc: Global, rng: &mut Pcg32, play: &Play, tally: &mut Tally) -> Result<bool, Stop> {
     let mut shop = stock(alloc, rng, play)?;
-    Ok(are_stepped(alloc, rng, &mut shop, play)? && are_damaged(alloc, rng, &mut shop, play)?)
+    Ok(
+        are_stepped(alloc, rng, &mut shop, play)?
+            && are_damaged(alloc, rng, &mut shop, play, tally)?,
+    )
 }
 
-/// The first session that isn't served.
-fn first_wrong(alloc: Global, seed: u64, plays: &[Play], rounds: usize) -> Option<usize> {
+/// What the first session is that isn't served, and what searches told over changed bytes.
+fn played(alloc: Global, seed: u64, plays: &[Play], rounds: usize) -> (Option<usize>, Tally) {
     let mut rng = Pcg32::new(seed, 54);
+    let mut tally = Tally {
+        answers: 0,
+        damages: 0,
+    };
     for round in 0..rounds {
         for (place, play) in plays.iter().enumerate() {
-            if !is_played(alloc, &mut rng, play).is_ok_and(|served| served) {
-                return Some(round.saturating_mul(100).saturating_add(place));
+            if !is_played(alloc, &mut rng, play, &mut tally).is_ok_and(|served| served) {
+                return (Some(round.saturating_mul(100).saturating_add(place)), tally);
             }
         }
     }
-    None
+    (None, tally)
 }
 
 #[test]
 fn random_sessions_are_served(rt: HostRuntime) -> Result<(), Fail> {
-    let wrong = first_wrong(rt.alloc(), 42, SHORT_PLAYS, 1);
+    let (wrong, tally) = played(rt.alloc(), 42, SHORT_PLAYS, 1);
     assert!(rt; wrong.is_none(), "round and session {wrong:?}");
+    let (answers, damages) = (tally.answers, tally.damages);
+    assert!(rt;
+        answers > 20 && damages > 20,
+        "{answers} answers, {damages} damages"
+    );
     Ok(())
 }
 
 #[test]
 fn random_sessions_of_many_pages_are_served(rt: HostRuntime) -> Result<(), Fail> {
-    let wrong = first_wrong(rt.alloc(), 43, LONG_PLAYS, 1);
+    let (wrong, tally) = played(rt.alloc(), 43, LONG_PLAYS, 1);
     assert!(rt; wrong.is_none(), "round and session {wrong:?}");
+    let (answers, damages) = (tally.answers, tally.damages);
+    assert!(rt;
+        answers > 20 && damages > 20,
+        "{answers} answers, {damages} damages"
+    );
     Ok(())
 }

@@ -1,14 +1,15 @@
-ghost use Rattle.std.specs.Prelude.{◌<◌, ◌≤◌, length};
+ghost use Rattle.std.specs.Prelude.{◌<◌, ◌≤◌, IfOk, length};
+ghost use Rattle.std.specs.List.Sorted.{IsStrictlyIncreasing};
 
 use crate::over_pages::asked::are_within;
 use crate::over_pages::reader::OwnReader;
 use crate::search::Table;
 use std::alloc::Global;
-use svr_edge::{Disk, Memory};
+use svr_edge::{Disk, Memory, Text};
 use svr_fakes::{FlipDisk, MemDisk};
 use svr_index::Index;
 use svr_iter::ScanFault;
-use svr_num::Mode;
+use svr_num::{DocId, Mode};
 use svr_pages::Pages;
 use svr_postpage::{PAGE_BYTES, PageFault, PageRef, read_page};
 use svr_tokens::Tokens;
@@ -128,6 +129,22 @@ impl Shelf {
     /// Whether a byte was changed or inverted since it was appended.
     pub fn is_changed(&self) -> bool {
         self.is_changed
+    }
+
+    /// The documents under a term.
+    pub fn docs(
+        &mut self,
+        alloc: Global,
+        index: &Index,
+        term: &Text,
+    ) -> Result<Vec<DocId>, ScanFault>
+        ensures { IfOk result (λ ids. IsStrictlyIncreasing ids.items) }
+    {
+        let Ok(reach) = self.reader.disk.len() else {
+            return Err(ScanFault::Page(PageFault::Read));
+        };
+        self.reader.reach = reach;
+        index.term_docs(alloc, term, &mut self.reader)
     }
 
     /// Searches. `None` where a score is above the bound of its key, which must not be.

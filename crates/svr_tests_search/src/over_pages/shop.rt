@@ -1,6 +1,7 @@
-ghost use Rattle.std.specs.Prelude.{◌<◌, ◌≤◌, ◌^◌, length};
+ghost use Rattle.std.specs.Prelude.{◌<◌, ◌≤◌, ◌^◌, IfOk};
+ghost use Rattle.std.specs.List.Sorted.{IsStrictlyIncreasing};
 
-use crate::over_pages::asked::{are_within, ascend, comes_after, have_ids, have_scores, is_method};
+use crate::over_pages::asked::{comes_after, have_ids, have_scores, is_method};
 use crate::over_pages::plain::Plain;
 use crate::over_pages::shelf::Shelf;
 use crate::over_pages::stop::Stop;
@@ -27,6 +28,8 @@ pub struct Shop {
     run: Option<MergeRun>,
     pub plain: Plain,
     pub shelf: Shelf,
+    /// Whether the last search came to a damaged page.
+    pub is_damaged: bool,
 }
 
 /// The terms as texts.
@@ -88,12 +91,7 @@ fn place_moved(alloc: Global, index: &mut Index, documents: &[Listed]) -> Result
 }
 
 /// Places a document, if it is a moved one.
-fn place_one(
-    alloc: Global,
-    index: &mut Index,
-    id: DocId,
-    terms: &Tokens,
-) -> Result<(), Memory> {
+fn place_one(alloc: Global, index: &mut Index, id: DocId, terms: &Tokens) -> Result<(), Memory> {
     if id < 1 << 63
         && let Some(entry) = index.entry(id)
         && entry.moved
@@ -117,14 +115,6 @@ fn slice_term(
     Ok(())
 }
 
-/// The pages of these ids by a merge.
-fn images_of(alloc: Global, run: &MergeRun, ids: &[DocId]) -> Result<Vec<u8>, Stop> {
-    if !ascend(ids) {
-        return Err(Stop::Barred);
-    }
-    Ok(run.images(alloc, ids)?)
-}
-
 impl Shop {
     /// No documents, a disk of a few bytes, and room for so many cached pages.
     pub fn new(alloc: Global, spec: MethodSpec, cache: u32) -> Result<Shop, Stop> {
@@ -138,17 +128,12 @@ impl Shop {
             run: None,
             plain: Plain::new(alloc, &spec)?,
             shelf: Shelf::new(alloc, b"SVR", cache)?,
+            is_damaged: false,
         })
     }
 
     /// A document comes into the index.
-    fn come(
-        &mut self,
-        alloc: Global,
-        id: DocId,
-        score: Score,
-        terms: &Tokens,
-    ) -> Result<(), Stop> {
+    fn come(&mut self, alloc: Global, id: DocId, score: Score, terms: &Tokens) -> Result<(), Stop> {
         if id >= 1 << 63 || score > SCORE_MAX || self.index.entry(id).is_some() {
             return Err(Stop::Barred);
         }
@@ -249,10 +234,23 @@ impl Shop {
         self.run.is_some()
     }
 
+    /// The next term behind another, if any; it is that of the plain listing.
+    fn term_behind(&self, alloc: Global, after: Option<&Text>) -> Result<Option<Text>, Stop> {
+        let plain = self.plain.next_term(alloc, after)?;
+        let next = match self.index.next_term(after) {
+            Some(term) => Some(term.copy(alloc)?),
+            None => None,
+        };
+        if next != plain {
+            return Err(Stop::Differs);
+        }
+        Ok(next)
+    }
+
     /// The next term of a merge, if one is left.
-    fn next_term(&self, alloc: Global) -> Result<Option<Text>, Memory> {
+    fn next_term(&self, alloc: Global) -> Result<Option<Text>, Stop> {
         match &self.run {
-            Some(run) => self.plain.next_term(alloc, run.last()),
+            Some(run) => self.term_behind(alloc, run.last()),
             None => Ok(None),
         }
     }
@@ -269,22 +267,34 @@ impl Shop {
         Ok(())
     }
 
+    /// The documents under a term; they are those of the plain listing.
+    fn docs(&mut self, alloc: Global, term: &Text) -> Result<Vec<DocId>, Stop>
+        ensures { IfOk result (λ ids. IsStrictlyIncreasing ids.items) }
+    {
+        let ids = self.shelf.docs(alloc, &self.index, term)?;
+        let plain = self.plain.listing.effective_ids(alloc, term)?;
+        if ids.as_slice() != plain.as_slice() {
+            return Err(Stop::Differs);
+        }
+        Ok(ids)
+    }
+
     /// Slices a term.
     fn slice_one(&mut self, alloc: Global, term: Text) -> Result<(), Stop> {
+        let ids = self.docs(alloc, &term)?;
+        let from = self.shelf.bytes().len() as u64;
         let Some(run) = &mut self.run else {
             return Ok(());
         };
-        let ids = self.plain.listing.effective_ids(alloc, &term)?;
-        let from = self.shelf.bytes().len() as u64;
-        self.shelf.append(&images_of(alloc, run, &ids)?)?;
+        self.shelf.append(&run.images(alloc, &ids)?)?;
         let pages = self.shelf.pages_from(alloc, from)?;
         self.plain.slice(alloc, &term, from)?;
         slice_term(alloc, run, term, pages)
     }
 
     /// How many terms are left to be sliced.
-    pub fn left(&self, alloc: Global) -> Result<u64, Memory> {
-        let mut left = 0;
+    pub fn left(&self, alloc: Global) -> Result<u64, Stop> {
+        let mut left: u64 = 0;
         let mut after = None;
         if let Some(run) = &self.run
             && let Some(last) = run.last()
@@ -292,11 +302,11 @@ impl Shop {
             after = Some(last.copy(alloc)?);
         }
         for _ in 0..1000 {
-            match self.plain.next_term(alloc, after.as_ref())? {
+            match self.term_behind(alloc, after.as_ref())? {
                 Some(term) => after = Some(term),
                 None => return Ok(left),
             }
-            left += 1;
+            left = left.saturating_add(1);
         }
         Ok(left)
     }
@@ -304,7 +314,7 @@ impl Shop {
     /// The documents under a term, as a text.
     pub fn under(&mut self, alloc: Global, term: &str) -> Result<String, Stop> {
         let term = Text::new(alloc, term)?;
-        let ids = self.plain.listing.effective_ids(alloc, &term)?;
+        let ids = self.docs(alloc, &term)?;
         let mut text = String::new(alloc);
         for id in &ids {
             text.push_str(format!(in alloc; "{id},")?.as_str())?;
@@ -371,7 +381,11 @@ impl Shop {
         if terms.len() == 0 || k == 0 || k > 1000 {
             return Err(Stop::Barred);
         }
-        match self.shelf.search(alloc, &self.index, &scores, terms, mode, k)? {
+        let found = self
+            .shelf
+            .search(alloc, &self.index, &scores, terms, mode, k);
+        self.is_damaged = found.is_err();
+        match found? {
             Some(answer) => Ok(answer),
             None => Err(Stop::Barred),
         }

@@ -9,6 +9,8 @@ pub enum Stop {
     Scan(ScanFault),
     /// What a call asks for did not hold.
     Barred,
+    /// The index told something else than the plain listing.
+    Differs,
 }
 
 impl From<ScanFault> for Stop {

@@ -81,7 +81,12 @@ pub fn pages_of<'a>(listing: &'a PlainListing, term: &Text) -> &'a [Page] {
 }
 
 impl Told {
-    fn new(alloc: Global, listing: &PlainListing, bytes: &[u8], term: &Text) -> Result<Told, Memory> {
+    fn new(
+        alloc: Global,
+        listing: &PlainListing,
+        bytes: &[u8],
+        term: &Text,
+    ) -> Result<Told, Memory> {
         let posted = listing.posted(alloc, term)?;
         let told = pairs_by(alloc, bytes, pages_of(listing, term))?;
         let held = listing.held(alloc, term)?;
@@ -174,4 +179,22 @@ pub fn groups_by_bytes(
         })?;
     }
     Ok(groups)
+}
+
+/// The documents that stand under a term, by the bytes.
+pub fn docs_by_bytes(
+    alloc: Global,
+    listing: &PlainListing,
+    bytes: &[u8],
+    term: &Text,
+) -> Result<Vec<DocId>, Memory> {
+    let told = Told::new(alloc, listing, bytes, term)?;
+    let ids = listing
+        .documents
+        .as_slice()
+        .iter()
+        .filter(|listed| told.has(listed))
+        .map(|listed| listed.document.id)
+        .collect(alloc)?;
+    Ok(ids)
 }
