@@ -2,6 +2,7 @@
 #![tactic(auto)]
 
 mod docs;
+mod entries;
 mod index;
 mod search;
 mod terms;

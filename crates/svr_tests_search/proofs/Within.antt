@@ -1,11 +1,14 @@
 -- Scores within bounds, from what was seen of each group.
-use Rattle.std.proofs.Common.{◌≡◌, ℕ, suc, ◌<◌, ◌≤◌, ◌==◌, ◌&&◌, ◌||◌, Bool, true, false, List, [], ◌∷◌, length, get_or, slice_index, Option, subst, refl, arith}
+use Rattle.std.proofs.Common.{◌≡◌, ℕ, suc, ◌-◌, ◌^◌, ◌<◌, ◌≤◌, ◌==◌, ◌&&◌, ◌||◌, Bool, true, false, List, [], ◌∷◌, length, get_or, slice_index, Option, Some, subst, refl, ap, ◌∙◌, arith, cond, find, min, option_map}
+use Rattle.std.proofs.Math.Nat.{min-le_left}
+use Rattle.svr_num.specs.declared.hit.Hit.{Hit}
+use Rattle.svr_num.specs.declared.list_key.ListKey.{ListKey}
 use Rattle.std.specs.List.{AllByRecursion, list_any}
 use Rattle.std.specs.Option.{ForSome}
 use Rattle.svr_listing.specs.declared.group.Group.{Group}
 use Rattle.svr_iter.specs.Mem.{holds}
 use Rattle.svr_iter.specs.Truths.{and_left, and_right, eq_from}
-use Rattle.svr_tests_search.specs.Bounded.{ScoresWithin}
+use Rattle.svr_tests_search.specs.Bounded.{ScoresWithin, score_in}
 
 pub all_from : (P : ℕ → Type 0) (ids : List ℕ) → ((k : ℕ) → k < length ids → P (slice_index ids k)) → AllByRecursion P ids
 all_from P [] each = tt
@@ -36,3 +39,24 @@ within_all score bound (g ∷ gs) each key id e =
         → (holds gs key id ≡ true → ForSome (score id) (λ s. s ≤ bound key)) → ForSome (score id) (λ s. s ≤ bound key)
     one true f h rest = here f
     one false f h rest = rest h
+
+-- ---- scores of rows, each of which is within the bound of its entry
+
+one_within : (bound : ℕ → ℕ) (entry_at : ℕ → Option ListKey) (row : Hit) (others : Option Hit) (id : ℕ) (entry : ListKey)
+    → entry_at id ≡ Some entry → ForSome (entry_at row.id) (λ e. row.score ≤ bound e.key)
+    → ((s : ℕ) → option_map (λ (hit : Hit). min hit.score (2 ^ 48 - 1)) others ≡ Some s → s ≤ bound entry.key)
+    → (b : Bool) → (row.id == id) ≡ b
+    → (s : ℕ) → option_map (λ (hit : Hit). min hit.score (2 ^ 48 - 1)) (cond b (Some row) others) ≡ Some s → s ≤ bound entry.key
+one_within bound entry_at row others id entry there here rest true same s is =
+    let le : row.score ≤ bound entry.key = here entry (ap entry_at (eq_from row.id id same) ∙ there) in
+    let this : min row.score (2 ^ 48 - 1) ≡ s = cc in
+    omega (arith, min-le_left row.score (2 ^ 48 - 1), this, le)
+one_within bound entry_at row others id entry there here rest false same s is = rest s is
+
+pub rows_within : (bound : ℕ → ℕ) (entry_at : ℕ → Option ListKey) (rows : List Hit)
+    → ((k : ℕ) (d : Hit) → k < length rows → ForSome (entry_at (get_or rows k d).id) (λ e. (get_or rows k d).score ≤ bound e.key))
+    → (id : ℕ) (entry : ListKey) → entry_at id ≡ Some entry → (s : ℕ) → score_in rows id ≡ Some s → s ≤ bound entry.key
+rows_within bound entry_at [] each id entry there s is = absurd (cc)
+rows_within bound entry_at (row ∷ rows) each id entry there s is =
+    one_within bound entry_at row (find (λ hit. hit.id == id) rows) id entry there (each 0 row (omega arith))
+    (rows_within bound entry_at rows (λ k d lt. each (suc k) d (omega (arith, lt))) id entry there) (row.id == id) refl s is

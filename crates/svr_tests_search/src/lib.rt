@@ -6,6 +6,8 @@ mod lists;
 #[cfg(test)]
 mod live;
 #[cfg(test)]
+mod over_pages;
+#[cfg(test)]
 mod random;
 #[cfg(test)]
 mod rows;

@@ -56,7 +56,7 @@ fn table_of(alloc: Global, third: u64, ninth: u64) -> Result<Table, AllocError> 
 }
 
 /// An answer as a text.
-fn text_of(alloc: Global, answer: &Answer) -> Result<String, AllocError> {
+pub fn text_of(alloc: Global, answer: &Answer) -> Result<String, AllocError> {
     let mut text = String::new(alloc);
     for hit in answer.hits.as_slice() {
         text.push_str(&format!(in alloc; "{}:{} ", hit.id, hit.score)?)?;
