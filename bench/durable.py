@@ -8,6 +8,7 @@ many times, since disks differ from one moment to the next. The journals that ar
 insert the same rows in one transaction stands beside.
 """
 
+import fcntl
 import json
 import os
 import random
@@ -22,6 +23,7 @@ import time
 ROUNDS = 20
 CHANGES = 2_000
 ROWS = 200_000
+PIPE_BYTES = 1 << 20  # what a pipe holds at most where the system's limit is as it comes; all requests and their replies fit
 WORDS = [f"word{number}" for number in range(5_000)]
 SCHEMA = {
     "tables": [
@@ -94,22 +96,20 @@ def record_sizes(path):
 
 
 def changing(program, folder, changes):
-    """Seconds of a run between two pipes, from its start to its end; each request is accepted."""
-    given, taken = os.path.join(folder, "given"), os.path.join(folder, "taken")
-    with open(given, "w") as file:
-        file.write(changes)
-    with open(taken, "wb") as file:
-        start = time.monotonic()
-        source = subprocess.Popen(["cat", given], stdout=subprocess.PIPE)
-        child = subprocess.Popen([program, "serve"], stdin=source.stdout, stdout=subprocess.PIPE, cwd=folder)
-        sink = subprocess.Popen(["cat"], stdin=child.stdout, stdout=file)
-        ended = child.wait()
-        spent = time.monotonic() - start
-        child.stdout.close()
-        sink.wait()
-        source.wait()
-    with open(taken, "rb") as file:
-        assert ended == 0 and all(reply.startswith(b'{"ok":') for reply in file)
+    """Seconds of a run between two pipes; each request is accepted. All requests are in the pipe before the program starts, and the replies
+    are read when it has ended, so that no other process runs meanwhile."""
+    given, requests = os.pipe()
+    fcntl.fcntl(requests, fcntl.F_SETPIPE_SZ, PIPE_BYTES)
+    os.write(requests, changes.encode())
+    os.close(requests)
+    replies, taken = os.pipe()
+    start = time.monotonic()
+    ended = subprocess.Popen([program, "serve"], stdin=given, stdout=taken, cwd=folder).wait()
+    spent = time.monotonic() - start
+    os.close(given)
+    os.close(taken)
+    with os.fdopen(replies, "rb") as lines:
+        assert ended == 0 and all(reply.startswith(b'{"ok":') for reply in lines)
     return spent
 
 
