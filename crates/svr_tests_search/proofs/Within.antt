@@ -1,5 +1,6 @@
 -- Scores within bounds, from what was seen of each group.
-use Rattle.std.proofs.Common.{◌≡◌, ℕ, suc, ◌-◌, ◌^◌, ◌<◌, ◌≤◌, ◌==◌, ◌&&◌, ◌||◌, Bool, true, false, List, [], ◌∷◌, length, get_or, slice_index, Option, Some, subst, refl, ap, ◌∙◌, arith, cond, find, min, option_map}
+use Rattle.std.proofs.Common.{◌≡◌, ℕ, suc, ◌-◌, ◌^◌, ◌<◌, ◌≤◌, ◌==◌, ◌&&◌, ◌||◌, Bool, true, false, List, []}
+use Rattle.std.proofs.Common.{◌∷◌, length, get_or, slice_index, Option, Some, subst, refl, ap, ◌∙◌, arith, cond, find, min, option_map}
 use Rattle.std.proofs.Math.Nat.{min-le_left}
 use Rattle.svr_num.specs.declared.hit.Hit.{Hit}
 use Rattle.svr_num.specs.declared.list_key.ListKey.{ListKey}

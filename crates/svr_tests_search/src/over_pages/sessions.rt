@@ -336,11 +336,11 @@ fn played(alloc: Global, seed: u64, plays: &[Play], rounds: usize) -> (Option<us
 
 #[test]
 fn random_sessions_are_served(rt: HostRuntime) -> Result<(), Fail> {
-    let (wrong, tally) = played(rt.alloc(), 42, SHORT_PLAYS, 1);
+    let (wrong, tally) = played(rt.alloc(), 42, SHORT_PLAYS, 60);
     assert!(rt; wrong.is_none(), "round and session {wrong:?}");
     let (answers, damages) = (tally.answers, tally.damages);
     assert!(rt;
-        answers > 20 && damages > 20,
+        answers > 200 && damages > 200,
         "{answers} answers, {damages} damages"
     );
     Ok(())
@@ -348,11 +348,11 @@ fn random_sessions_are_served(rt: HostRuntime) -> Result<(), Fail> {
 
 #[test]
 fn random_sessions_of_many_pages_are_served(rt: HostRuntime) -> Result<(), Fail> {
-    let (wrong, tally) = played(rt.alloc(), 43, LONG_PLAYS, 1);
+    let (wrong, tally) = played(rt.alloc(), 43, LONG_PLAYS, 20);
     assert!(rt; wrong.is_none(), "round and session {wrong:?}");
     let (answers, damages) = (tally.answers, tally.damages);
     assert!(rt;
-        answers > 20 && damages > 20,
+        answers > 200 && damages > 200,
         "{answers} answers, {damages} damages"
     );
     Ok(())
