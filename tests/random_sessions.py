@@ -4,7 +4,7 @@
 Run it with the program's path and how many sessions: tests/random_sessions.py crates/svr/out/svr 500
 Each session is cut at a random place: the program ends there, and starts again with the file that it left.
 
-The model keeps rows in dictionaries and computes every score anew from all rows, by the words of docs/REFERENCE.md. It knows texts of
+The model keeps rows in dictionaries and computes every score and every document's key anew from all rows, by the words of docs/REFERENCE.md. It knows texts of
 words in ASCII alone. Where a reply differs, the session up to there and both replies are printed.
 """
 
@@ -18,6 +18,14 @@ import tempfile
 GREATEST = 2**48 - 1
 WORDS = ["rain", "man", "sun", "Purple", "RED", "sea", "sky"]
 TEXT_TABLE = "films"
+METHODS = [
+    {"kind": "id"},
+    {"kind": "score"},
+    {"kind": "score-threshold", "num": 3, "den": 2},
+    {"kind": "score-threshold", "num": 1, "den": 1},
+    {"kind": "score-threshold", "num": 1000000, "den": 1},
+    {"kind": "chunk", "ratio": 200, "min_docs": 1},
+]
 # A folder in memory, where a sync costs little.
 MEMORY = "/dev/shm" if os.path.isdir("/dev/shm") else None
 
@@ -40,6 +48,7 @@ class Model:
 
     def __init__(self, schema):
         self.schema, self.rows, self.changes = schema, {name: {} for name in COLUMNS}, 1
+        self.keys = {}
 
     def value(self, component, document):
         if component["kind"] == "own":
@@ -67,6 +76,27 @@ class Model:
         total = sum(component["weight"] * self.value(component, document) for component in self.schema["components"])
         return max(0, min(GREATEST, total // self.schema["divisor"]))
 
+    def key(self, score):
+        return score if self.schema["method"]["kind"] in ("score", "score-threshold") else 0
+
+    def bound(self, key):
+        method = self.schema["method"]
+        if method["kind"] == "score-threshold":
+            return min(key * method["num"] // method["den"], GREATEST)
+        return key if method["kind"] == "score" else GREATEST
+
+    def stays(self, score, key):
+        return score == key if self.schema["method"]["kind"] == "score" else score <= self.bound(key)
+
+    def list_documents(self):
+        """Each document that is new, or doesn't stay where it is listed, is listed at the key of its score."""
+        documents = self.rows[TEXT_TABLE]
+        self.keys = {name: key for name, key in self.keys.items() if name in documents}
+        for name, document in documents.items():
+            score = self.score(document)
+            if name not in self.keys or not self.stays(score, self.keys[name]):
+                self.keys[name] = self.key(score)
+
     def bad_row(self, name, row):
         for place, (kind, value) in enumerate(zip(KINDS[name], row)):
             if not isinstance(value, int if kind == "int" else str) or (place == 0 and value < 0):
@@ -86,6 +116,7 @@ class Model:
             if request["id"] not in rows:
                 return {"error": "no-row"}
             del rows[request["id"]]
+            self.list_documents()
             return self.accepted()
         row = request["row"]
         place = self.bad_row(name, row)
@@ -94,6 +125,7 @@ class Model:
         if (row[0] in rows) != (request["op"] == "update"):
             return {"error": "key-exists" if request["op"] == "insert" else "no-row"}
         rows[row[0]] = row
+        self.list_documents()
         return self.accepted()
 
     def load(self, name, rows):
@@ -102,22 +134,33 @@ class Model:
             if row[0] in self.rows[name] or row[0] in added:
                 return {"error": "key-exists", "record": number}
             added[row[0]] = row
-        self.rows[name].update(added)
+        for row in rows:
+            self.rows[name][row[0]] = row
+            self.list_documents()
         return self.accepted()
 
     def search(self, request):
         terms = {word.lower() for word in request["query"].split()}
         if not terms:
             return {"error": "no-terms"}
-        any_term = request.get("mode") == "any"
-        hits, groups = [], 0
+        any_term, k = request.get("mode") == "any", request.get("k", 10)
+        matching, keys = [], set()
         for document in self.rows[TEXT_TABLE].values():
             words = {word.lower() for word in document[2].split()}
-            groups = 1 if words & terms else groups
+            if words & terms:
+                keys.add(self.keys[document[0]])
             if (words & terms) if any_term else (terms <= words):
-                hits.append([document[0], self.score(document)])
-        hits.sort(key=lambda hit: (-hit[1], hit[0]))
-        return {"hits": hits[: request.get("k", 10)], "groups": groups}
+                matching.append(document[0])
+        scores = {name: self.score(self.rows[TEXT_TABLE][name]) for name in matching}
+        keys = sorted(keys, reverse=True)
+        groups = 0
+        while groups < len(keys):
+            found = sorted((scores[name] for name in matching if self.keys[name] in keys[:groups]), reverse=True)
+            if len(found) >= k and found[k - 1] > self.bound(keys[groups]):
+                break
+            groups += 1
+        hits = sorted(([name, scores[name]] for name in matching), key=lambda hit: (-hit[1], hit[0]))
+        return {"hits": hits[:k], "groups": groups}
 
 
 def some_text(chance):
@@ -169,7 +212,7 @@ def some_schema(chance):
         "text": {"table": TEXT_TABLE, "column": "title"},
         "components": [some_component(chance) for _ in range(chance.randrange(0, 9))],
         "divisor": chance.choice([1, 2, 7, 10**9]),
-        "method": {"kind": "id"},
+        "method": chance.choice(METHODS),
     }
 
 

@@ -11,7 +11,7 @@ use Rattle.svr_request.specs.declared.refusal.Refusal.TheVariants as refusal
 use Rattle.svr_rows.specs.declared.change.Change.TheVariants.{Delete}
 use Rattle.svr_rows.specs.declared.change.RowRefusal.TheVariants.{NoRow}
 use Rattle.svr_rows.specs.declared.row.Row.{Row}
-use Rattle.svr_rows.specs.Changes.{changed, refusal_at, refusal_of, refuse_if}
+use Rattle.svr_rows.specs.Changes.{refusal_at, refusal_of, refuse_if}
 use Rattle.svr_rows.specs.Kept.{IsTableRows}
 use Rattle.svr_rows.specs.Rows.{HasId, IsRowOf, TableRows, has_row, id_of, kinds_at, kinds_in, kinds_of, row_at, rows_at, rows_in}
 use Rattle.svr_rows.proofs.ById.{is_some-row_at}
@@ -19,8 +19,9 @@ use Rattle.svr_rows.proofs.Fits.{HasId-from_fits}
 use Rattle.svr_rows.proofs.Sums.{IsTableRows-at}
 use Rattle.svr_schema.specs.declared.schema.Schema.{Schema}
 use Rattle.svr_view.specs.View.{AreTablesOf}
-use Rattle.svr_core.specs.Outcomes.{change_outcome, changes_to, refused, unless_refused}
-use Rattle.svr_core.specs.State.{Catalog}
+use Rattle.svr_catalog.specs.Catalog.{Catalog}
+use Rattle.svr_core.specs.declared.plan.Edit.TheVariants as edit
+use Rattle.svr_core.specs.Outcomes.{change_outcome, edits, refused, unless_refused}
 
 is_same : (a b : ℕ) → (a == b) ≡ true → a ≡ b
 is_same a b e = grind (arith, nat_tests, e)
@@ -68,5 +69,5 @@ length-tables s tables h = sym (length-map tables (λ t. t.kinds)) ∙ ap length
 pub change_outcome-no_row : (c : Catalog) (place id : ℕ) → place < length c.tables → row_at (rows_in c.tables place) id ≡ None
     → change_outcome c (Delete place id) ≡ refused refusal.NoRow
 change_outcome-no_row c place id within h =
-    let after : Catalog = record { schema = c.schema; tables = changed c.tables (Delete place id) } in
-    ap (λ r. unless_refused r (changes_to after (entry.Change (Delete place id)))) (refusal_of-no_row c.tables place id within h)
+    ap (λ r. unless_refused r (edits (edit.Change (Delete place id)) (entry.Change (Delete place id))))
+    (refusal_of-no_row c.tables place id within h)

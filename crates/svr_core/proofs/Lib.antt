@@ -1,12 +1,11 @@
 pub mod Accepted
+pub mod Answered
 pub mod Asked
 pub mod Deleted
-pub mod Followed
-pub mod Loaded
+pub mod Edited
 pub mod Made
-pub mod Mapped
 pub mod Planned
 pub mod Replayed
-pub mod Searched
 pub mod SoFar
+pub mod Unposted
 pub mod Written

@@ -4,14 +4,9 @@ use Rattle.std.proofs.lemmas.Option.{slice_get-map}
 use Rattle.std.specs.List.{cons_option, filter_map}
 use Rattle.svr_rows.specs.declared.row.Row.{Row}
 use Rattle.svr_rows.specs.declared.row.Given.{Given}
-use Rattle.svr_rows.specs.Rows.{TableRows, cell_in, kinds_at, kinds_in, kinds_of, no_rows, rows_at, rows_in}
-use Rattle.svr_rows.proofs.Sums.{IsTableRows-all_no_rows}
+use Rattle.svr_rows.specs.Rows.{TableRows, cell_in, kinds_at, kinds_in, kinds_of}
 use Rattle.svr_schema.specs.declared.table.ColumnKind.{ColumnKind}
 use Rattle.svr_schema.specs.declared.table.Table.{Table}
-use Rattle.svr_schema.specs.declared.schema.Schema.{Schema}
-use Rattle.svr_schema.specs.Lawful.{IsSchema}
-use Rattle.svr_view.specs.View.{AreTablesOf}
-use Rattle.svr_core.specs.Documents.{documents_by_id}
 use Rattle.svr_core.specs.Outcomes.{row_of}
 
 module _ {X Y : Type 0} (f : X → Option Y) where
@@ -44,24 +39,3 @@ kinds_in-is tables declared place table same e =
     kinds_if (slice_get tables place) (kinds_of table)
     (sym (slice_get-map (λ t. t.kinds) tables place) ∙ ap (λ ks. slice_get ks place) same
     ∙ slice_get-map kinds_of declared place ∙ ap (option_map kinds_of) e)
-
--- ---- tables without rows
-
-kinds-no_rows : (tables : List Table) → map (λ t. t.kinds) (map no_rows tables) ≡ map kinds_of tables
-kinds-no_rows [] = refl
-kinds-no_rows (t ∷ tables) = ap (λ ks. kinds_of t ∷ ks) (kinds-no_rows tables)
-
-rows_at-no_rows : (o : Option Table) → rows_at (option_map no_rows o) ≡ []
-rows_at-no_rows None = refl
-rows_at-no_rows (Some t) = refl
-
-pub AreTablesOf-no_rows : (s : Schema) → IsSchema s → AreTablesOf s (map no_rows s.tables)
-AreTablesOf-no_rows s lawful = record {
-  lawful = lawful;
-  kinds = kinds-no_rows s.tables;
-  rows = IsTableRows-all_no_rows s.tables lawful.tables;
-}
-
-pub documents_by_id-no_rows : (s : Schema) → [] ≡ documents_by_id s (rows_in (map no_rows s.tables) s.text_table)
-documents_by_id-no_rows s = ap (documents_by_id s) (sym (ap rows_at (slice_get-map no_rows s.tables s.text_table)
-    ∙ rows_at-no_rows (slice_get s.tables s.text_table)))

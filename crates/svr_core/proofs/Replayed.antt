@@ -3,15 +3,19 @@ use Rattle.std.proofs.Common.{◌≡◌, ℕ, ◌+◌, List, [], ◌∷◌, ◌+
 use Rattle.std.proofs.Common.{refl, sym, ap, ◌∙◌, arith, length-append}
 use Rattle.std.specs.Int.{to_be_bytes, w32}
 use Rattle.std.specs.List.{flat_map}
-use Rattle.std.specs.Option.{option_and_then, option_map}
+use Rattle.std.specs.Option.{option_and_then}
 use Rattle.std.proofs.lemmas.Grind.{flat_map-append}
 use Rattle.svr_journal.specs.File.{end_of, magic, open_record}
 use Rattle.svr_journal.specs.Gates.{Gate, NextAnswers, broken, gate_of, record_of, shut}
 use Rattle.svr_record.specs.declared.record.Record.{Record}
 use Rattle.svr_record.specs.Grammar.{record_in}
-use Rattle.svr_core.specs.Outcomes.{entry_outcome}
-use Rattle.svr_core.specs.Replay.{HasGates, after_body, after_record, catalog_by, replayed, with_catalog}
-use Rattle.svr_core.specs.State.{Catalog, Served}
+use Rattle.svr_catalog.specs.Catalog.{Catalog}
+use Rattle.svr_core.specs.declared.plan.Edit.{Edit}
+use Rattle.svr_core.specs.Edits.{served_with}
+use Rattle.svr_core.specs.Outcomes.{Outcome, edits, entry_outcome, refused, searches}
+use Rattle.svr_core.specs.Plans.{IsEdit}
+use Rattle.svr_core.specs.Replay.{HasGates, after_body, after_record, replayed, served_after}
+use Rattle.svr_core.specs.State.{Served}
 
 -- ---- what is served
 
@@ -38,19 +42,27 @@ pub replayed-none : (s : Served) → replayed s [] ≡ Some s
 unfolding replayed
 replayed-none s = refl
 
-numbered_by : (s next : Served) (c : Option Catalog) → option_map (with_catalog s) c ≡ Some next → next.changes ≡ s.changes + 1
-numbered_by s next None h = absurd (let e : None ≡ Some next = h in cc)
-numbered_by s next (Some c) h =
-    let same : with_catalog s c ≡ next = let e : Some (with_catalog s c) ≡ Some next = h in cc in
+numbered_by : (s next : Served) (o : Outcome) → served_after s o ≡ Some next → next.changes ≡ s.changes + 1
+numbered_by s next (refused why) h = absurd (let e : None ≡ Some next = h in cc)
+numbered_by s next (searches terms m k) h = absurd (let e : None ≡ Some next = h in cc)
+numbered_by s next (edits made entry) h =
+    let same : served_with s made ≡ next = let e : Some (served_with s made) ≡ Some next = h in cc in
     ap (λ t. t.changes) (sym same)
 
 numbered_if : (s next : Served) (o : Option Record) → option_and_then (after_record s) o ≡ Some next → next.changes ≡ s.changes + 1
 numbered_if s next None h = absurd (let e : None ≡ Some next = h in cc)
-numbered_if s next (Some entry) h = numbered_by s next (catalog_by (entry_outcome s.catalog entry)) h
+numbered_if s next (Some entry) h = numbered_by s next (entry_outcome s.catalog entry) h
 
 -- a record more is a change more
 pub after_body-numbered : (s next : Served) (body : List ℕ) → after_body s body ≡ Some next → next.changes ≡ s.changes + 1
 after_body-numbered s next body h = numbered_if s next (record_in body) h
+
+-- a record that comes to an edit is accepted
+pub after_body-edit : (s : Served) (body : List ℕ) (entry : Record) (set : Option Catalog) (e : Edit) → set ≡ s.catalog
+    → record_in body ≡ Some entry → IsEdit (entry_outcome set entry) set e → after_body s body ≡ Some (served_with s e)
+after_body-edit s body entry set e same found is =
+    ap (λ (o : Option Record). option_and_then (after_record s) o) found
+    ∙ ap (served_after s) (ap (λ (c : Option Catalog). entry_outcome c entry) (sym same) ∙ is.outcome)
 
 -- ---- places
 

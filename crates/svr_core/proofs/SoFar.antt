@@ -11,7 +11,9 @@ use Rattle.svr_journal.specs.Place.{Place}
 use Rattle.svr_journal.specs.declared.faults.JournalError.{JournalError}
 use Rattle.svr_journal.specs.declared.faults.JournalError.TheVariants as error
 use Rattle.svr_core.specs.Replay.{HasGates, IsAtFault, IsRefusedAt, after_body, replayed}
+use Rattle.svr_core.specs.Kept.{CoreValue, ServesAs}
 use Rattle.svr_core.specs.State.{Served, empty}
+use Rattle.svr_core.specs.Steps.{TakesBody}
 use Rattle.svr_core.proofs.Replayed.{HasGates-more, after_body-numbered, end_of-more, next_record, replayed-more, replayed-none}
 
 -- the disk is as it was, and no count has fallen
@@ -40,26 +42,31 @@ IsRead-more old mid new result first second = record {
   writes = second.writes ∙ first.writes;
 }
 
--- the records up to the place of the journal are accepted, and give what is served
-pub record SoFar (disk : DiskView) (core : Served) (journal : Place) : Type 0 where
+-- the records up to the place of the journal are accepted, and give what is served by the core
+pub record SoFar (disk : DiskView) (core : CoreValue) (journal : Place) : Type 0 where
   pub bodies : List (List ℕ)
-  pub gives : replayed empty bodies ≡ Some core
+  pub served : Served
+  pub gives : replayed empty bodies ≡ Some served
+  pub serves : ServesAs core served
   pub at_end : journal.end ≡ end_of bodies
   pub gates : (bytes : List ℕ) → Reads disk bytes → HasGates bytes 8 bodies journal.end
   pub numbers : core.changes < journal.end
   pub size : journal.size ≡ disk.size
 
-pub SoFar-none : (disk : DiskView) (journal : Place) → journal ≡ record { end = 8; size = disk.size } → SoFar disk empty journal
-SoFar-none disk journal is = rw is (record {
+pub SoFar-none : (disk : DiskView) (core : CoreValue) (journal : Place) → ServesAs core empty
+    → journal ≡ record { end = 8; size = disk.size } → SoFar disk core journal
+SoFar-none disk core journal serves is = rw is (record {
   bodies = [];
+  served = empty;
   gives = replayed-none empty;
+  serves = serves;
   at_end = refl;
   gates = λ bytes reads. refl;
-  numbers = omega arith;
+  numbers = omega (arith, serves.changes);
   size = refl;
 })
 
-module _ (disk mid : DiskView) (core : Served) (old : Place) (so_far : SoFar disk core old) (read : IsRead disk mid) where
+module _ (disk mid : DiskView) (core : CoreValue) (old : Place) (so_far : SoFar disk core old) (read : IsRead disk mid) where
   module _ (found : Option ℕ) (address : ℕ) (is_some : found ≡ Some address) (body : List ℕ)
       (answer : (bytes : List ℕ) → Reads mid bytes → NextAnswers (gate_of (drop old.end bytes)) old.end (Ok found) body) where
     there : (bytes : List ℕ) → Reads disk bytes → gate_of (drop old.end bytes) ≡ record_of body
@@ -68,35 +75,43 @@ module _ (disk mid : DiskView) (core : Served) (old : Place) (so_far : SoFar dis
         (subst (λ (f : Option ℕ). NextAnswers (gate_of (drop old.end bytes)) old.end (Ok f) body) is_some
         (answer bytes (read.stays.content ∙ reads)))
 
-    pub SoFar-more : (next : Served) (new : Place) → after_body core body ≡ Some next
+    pub SoFar-more : (next : CoreValue) (new : Place) → TakesBody so_far.served next body
         → new ≡ record { end = old.end + 5 + length body; size = old.size } → SoFar disk next new
-    SoFar-more next new gives is = rw is (record {
+    SoFar-more next new taken is = rw is (record {
       bodies = so_far.bodies ++ body ∷ [];
-      gives = replayed-more empty so_far.bodies body core so_far.gives ∙ gives;
+      served = taken.next;
+      gives = replayed-more empty so_far.bodies body so_far.served so_far.gives ∙ taken.gives;
+      serves = taken.serves;
       at_end = ap (λ n. n + 5 + length body) so_far.at_end ∙ sym (end_of-more so_far.bodies body);
       gates = λ bytes reads. HasGates-more bytes 8 so_far.bodies body old.end (so_far.gates bytes reads) (there bytes reads);
-      numbers = omega (arith, after_body-numbered core next body gives, so_far.numbers);
+      numbers = omega (
+        arith,
+        after_body-numbered so_far.served taken.next body taken.gives,
+        so_far.numbers,
+        so_far.serves.changes,
+        taken.serves.changes,
+      );
       size = so_far.size;
     })
 
     -- a record that isn't accepted
-    pub fault_at_record : (bytes : List ℕ) → Reads disk bytes → after_body core body ≡ None → IsAtFault bytes old.end
+    pub fault_at_record : (bytes : List ℕ) → Reads disk bytes → after_body so_far.served body ≡ None → IsAtFault bytes old.end
     fault_at_record bytes reads none = record {
       bodies = so_far.bodies;
-      served = core;
+      served = so_far.served;
       gates = so_far.gates bytes reads;
       gives = so_far.gives;
-      refused = subst (IsRefusedAt core) (sym (there bytes reads)) none;
+      refused = subst (IsRefusedAt so_far.served) (sym (there bytes reads)) none;
     }
 
   -- a gate without a whole record behind it
   fault_at_gate : (bytes : List ℕ) → Reads disk bytes → gate_of (drop old.end bytes) ≡ broken → IsAtFault bytes old.end
   fault_at_gate bytes reads is = record {
     bodies = so_far.bodies;
-    served = core;
+    served = so_far.served;
     gates = so_far.gates bytes reads;
     gives = so_far.gives;
-    refused = subst (IsRefusedAt core) (sym is) tt;
+    refused = subst (IsRefusedAt so_far.served) (sym is) tt;
   }
 
   -- the step to the next record tells that

@@ -1,8 +1,7 @@
 pub mod Answers
-pub mod Changing
-pub mod Documents
+pub mod Asked
 pub mod Edits
-pub mod Keeping
+pub mod Kept
 pub mod Outcomes
 pub mod Plans
 pub mod Replay

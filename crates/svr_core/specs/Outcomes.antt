@@ -1,5 +1,5 @@
 -- What comes of a request, and of a record that is read again: one case for each.
-use Rattle.std.specs.Prelude.{ℕ, ℤ, ◌&&◌, Bool, true, false, pos, negsuc, List, [], ◌∷◌, length}
+use Rattle.std.specs.Prelude.{ℕ, ℤ, ◌&&◌, Bool, pos, negsuc, List, [], ◌∷◌, length}
 use Rattle.std.specs.Prelude.{map, nat_lt, nat_le, if◌then◌else◌, Option, Some, None, Result, Ok, Err}
 use Rattle.std.specs.List.{filter_map}
 use Rattle.serde_json.specs.Data.{Data}
@@ -7,7 +7,6 @@ use Rattle.serde_json.specs.Written.{compact_text}
 use Rattle.svr_num.specs.declared.mode.Mode.{Mode}
 use Rattle.svr_request.specs.declared.refusal.Refusal.{Refusal}
 use Rattle.svr_request.specs.declared.refusal.Refusal.TheVariants as refusal
-use Rattle.svr_request.specs.declared.reply.Answer.{Answer}
 use Rattle.svr_csvload.specs.Blocks.{rows_in_block}
 use Rattle.svr_request.specs.Requests.{Submitted, Wanted, schema, insert, update, delete, load, search, merge, merge_begin}
 use Rattle.svr_request.specs.Requests.{merge_slice, merge_publish, value_in}
@@ -19,37 +18,29 @@ use Rattle.svr_rows.specs.declared.change.RowRefusal.{RowRefusal}
 use Rattle.svr_rows.specs.declared.change.RowRefusal.TheVariants as why
 use Rattle.svr_rows.specs.declared.row.Given.{Given}
 use Rattle.svr_rows.specs.declared.row.Row.{Row}
-use Rattle.svr_rows.specs.Changes.{changed, inserted, load_refusal, refusal_of}
+use Rattle.svr_rows.specs.Changes.{load_refusal, refusal_of}
 use Rattle.svr_rows.specs.Rows.{bad_column, cell_in, kinds_in}
-use Rattle.svr_schema.specs.declared.method.MethodSpec.{MethodSpec}
-use Rattle.svr_schema.specs.declared.method.MethodSpec.TheVariants as method
 use Rattle.svr_schema.specs.declared.schema.Schema.{Schema}
 use Rattle.svr_schema.specs.Lookups.{table_at}
 use Rattle.svr_schema.specs.Rules.{schema_in}
 use Rattle.svr_tokens.specs.Tokens.{tokens_of}
-use Rattle.svr_core.specs.Answers.{answer_of}
-use Rattle.svr_core.specs.State.{Catalog, Served, new_catalog}
+use Rattle.svr_catalog.specs.Catalog.{Catalog}
+use Rattle.svr_core.specs.declared.plan.Edit.{Edit}
+use Rattle.svr_core.specs.declared.plan.Edit.TheVariants as edit
+use Rattle.svr_core.specs.State.{Served}
 
--- a request is refused, or answered, or it changes what is served, and this record is kept of it
+-- a request is refused, or it searches for the best k documents, or it makes an edit of what is served, and this record is kept of it
 pub data Outcome : Type 0 where
   refused : Refusal → Outcome
-  found : Answer → Outcome
-  changes_to : Catalog → Record → Outcome
+  searches : List (List ℕ) → Mode → ℕ → Outcome
+  edits : Edit → Record → Outcome
 
 -- ---- a schema
-
-abbrev pub is_plain : MethodSpec → Bool
-is_plain method.Id = true
-is_plain _ = false
-
--- a rule that holds as yet: the method is `id`
-abbrev pub served_so_far : Data → Schema → Outcome
-served_so_far d s = if is_plain s.method then changes_to (new_catalog s) (entry.Schema (compact_text d)) else refused (refusal.BadSchema 14)
 
 -- the schema that a value says, or the first rule that fails
 abbrev pub by_rules : Data → Result Schema ℕ → Outcome
 by_rules d (Err n) = refused (refusal.BadSchema n)
-by_rules d (Ok s) = served_so_far d s
+by_rules d (Ok s) = edits (edit.Schema s) (entry.Schema (compact_text d))
 
 -- a schema is set once
 abbrev pub schema_outcome : Option Catalog → Data → Outcome
@@ -73,8 +64,7 @@ unless_refused (Some r) later = refused (refusal_of_row None r)
 unless_refused None later = later
 
 abbrev pub change_outcome : Catalog → Change → Outcome
-change_outcome c change = unless_refused (refusal_of c.tables change)
-    (changes_to (record { schema = c.schema; tables = changed c.tables change }) (entry.Change change))
+change_outcome c change = unless_refused (refusal_of c.tables change) (edits (edit.Change change) (entry.Change change))
 
 -- the row that values make
 abbrev pub row_of : List Given → Row
@@ -111,8 +101,7 @@ unless_row_refused None later = later
 
 -- rows are inserted, one after the other, or none; the record is that of the load
 abbrev pub rows_outcome : Catalog → ℕ → Record → List Row → Outcome
-rows_outcome c table kept rows = unless_row_refused (load_refusal c.tables table rows)
-    (changes_to (record { schema = c.schema; tables = inserted c.tables table rows }) kept)
+rows_outcome c table kept rows = unless_row_refused (load_refusal c.tables table rows) (edits (edit.Load table rows) kept)
 
 abbrev pub unless_bad_record : Result (List Row) ℕ → (List Row → Outcome) → Outcome
 unless_bad_record (Err n) later = refused (refusal.BadCsv n)
@@ -133,13 +122,13 @@ abbrev pub k_of : ℤ → Option ℕ
 k_of (pos k) = if nat_le 1 k && nat_le k 1000 then Some k else None
 k_of (negsuc k) = None
 
-abbrev pub by_k : Catalog → List (List ℕ) → Mode → Option ℕ → Outcome
-by_k c query m None = refused refusal.BadK
-by_k c query m (Some k) = found (answer_of c query m k)
+abbrev pub by_k : List (List ℕ) → Mode → Option ℕ → Outcome
+by_k query m None = refused refusal.BadK
+by_k query m (Some k) = searches query m k
 
-abbrev pub search_outcome : Catalog → List (List ℕ) → Mode → ℤ → Outcome
-search_outcome c [] m k = refused refusal.NoTerms
-search_outcome c (t ∷ terms) m k = if nat_lt 16 (length (t ∷ terms)) then refused refusal.TooManyTerms else by_k c (t ∷ terms) m (k_of k)
+abbrev pub search_outcome : List (List ℕ) → Mode → ℤ → Outcome
+search_outcome [] m k = refused refusal.NoTerms
+search_outcome (t ∷ terms) m k = if nat_lt 16 (length (t ∷ terms)) then refused refusal.TooManyTerms else by_k (t ∷ terms) m (k_of k)
 
 -- ---- all requests
 
@@ -155,7 +144,7 @@ wanted_outcome c (insert table given) block = with_catalog c (λ c. insert_outco
 wanted_outcome c (update table given) block = with_catalog c (λ c. update_outcome c table given)
 wanted_outcome c (delete table id) block = with_catalog c (λ c. delete_outcome c table id)
 wanted_outcome c (load table header) block = with_catalog c (λ c. load_outcome c table header block)
-wanted_outcome c (search query m k) block = with_catalog c (λ c. search_outcome c (tokens_of query) m k)
+wanted_outcome c (search query m k) block = with_catalog c (λ _. search_outcome (tokens_of query) m k)
 wanted_outcome c merge block = refused refusal.UnknownOp
 wanted_outcome c merge_begin block = refused refusal.UnknownOp
 wanted_outcome c (merge_slice terms) block = refused refusal.UnknownOp
@@ -165,9 +154,13 @@ abbrev pub asked_outcome : Option Catalog → Result Wanted Refusal → List ℕ
 asked_outcome c (Err why) block = refused why
 asked_outcome c (Ok w) block = wanted_outcome c w block
 
--- what comes of a request over what is served
-unfoldable pub outcome_of : Served → Submitted → Outcome
-outcome_of s p = asked_outcome s.catalog p.request p.block
+-- what comes of a request where a catalog is set, or none
+unfoldable pub outcome_over : Option Catalog → Submitted → Outcome
+outcome_over c p = asked_outcome c p.request p.block
+
+-- what comes of it over what is served
+abbrev pub outcome_of : Served → Submitted → Outcome
+outcome_of s p = outcome_over s.catalog p
 
 -- ---- records that are read again
 

@@ -1,5 +1,6 @@
 -- What a request, or a record that is read again, comes to before anything is changed.
-use Rattle.std.specs.Prelude.{◌≡◌, ◌⊎◌, ◌≤◌, length, Option, Some, Result, IfErr, IfOk}
+use Rattle.std.specs.Prelude.{◌≡◌, ◌⊎◌, ◌≤◌, ◌<◌, length, Option, Result, IfErr, IfOk}
+use Rattle.std.specs.Option.{IsSome}
 use Rattle.svr_journal.specs.File.{IsBody}
 use Rattle.svr_record.specs.declared.record.Record.{Record}
 use Rattle.svr_record.specs.Bodies.{body_of}
@@ -10,9 +11,10 @@ use Rattle.svr_core.specs.declared.plan.Edit.{Edit}
 use Rattle.svr_core.specs.declared.plan.Entry.{Entry}
 use Rattle.svr_core.specs.declared.plan.Plan.{Plan}
 use Rattle.svr_core.specs.declared.plan.Plan.TheVariants as plan
-use Rattle.svr_core.specs.Edits.{Accepts, edited}
-use Rattle.svr_core.specs.Outcomes.{Outcome, changes_to, entry_outcome, found, refused}
-use Rattle.svr_core.specs.State.{Catalog}
+use Rattle.svr_core.specs.declared.queries.Query.{Query}
+use Rattle.svr_core.specs.Edits.{Accepts}
+use Rattle.svr_core.specs.Outcomes.{Outcome, edits, entry_outcome, refused, searches}
+use Rattle.svr_catalog.specs.Catalog.{Catalog}
 
 -- a refusal is that of the outcome, or want of memory
 abbrev pub MayRefuse : Outcome → Refusal → Type 0
@@ -20,11 +22,9 @@ MayRefuse o why = (o ≡ refused why) ⊎ (why ≡ refusal.Memory)
 
 -- an edit is what the outcome says, and may be made
 pub record IsEdit (o : Outcome) (set : Option Catalog) (e : Edit) : Type 0 where
-  pub after : Catalog
   pub entry : Record
-  pub outcome : o ≡ changes_to after entry
+  pub outcome : o ≡ edits e entry
   pub accepted : Accepts set e
-  pub made : edited set e ≡ Some after
 
 -- the edit, with the body of its record; read again, that comes to the same
 pub record IsEntry (o : Outcome) (set : Option Catalog) (e : Entry) : Type 0 where
@@ -34,18 +34,23 @@ pub record IsEntry (o : Outcome) (set : Option Catalog) (e : Entry) : Type 0 whe
   pub size : IsBody e.body
   pub again : entry_outcome set edit.entry ≡ o
 
--- a plan is what the outcome says
-abbrev pub IsPlan : Outcome → Option Catalog → Plan → Type 0
-IsPlan o set (plan.Answer answer) = o ≡ found answer
-IsPlan o set (plan.Change e) = IsEntry o set e
+-- a search may be made: it has terms, and from 1 to 1,000 documents are wanted
+pub record MayAsk (q : Query) : Type 0 where
+  pub some_terms : 0 < length q.terms
+  pub some : 0 < q.k
+  pub few : q.k ≤ 1000
 
--- an answer has at most 1,000 hits
-abbrev pub IsShort : Plan → Type 0
-IsShort (plan.Answer answer) = length answer.hits ≤ 1000
-IsShort (plan.Change e) = Unit {0}
+-- a search is what the outcome says, and may be made
+pub record IsQuery (o : Outcome) (q : Query) : Type 0 where
+  pub outcome : o ≡ searches q.terms q.mode q.k
+  pub may : MayAsk q
+
+-- a plan is what the outcome says; a search is made where a catalog is set
+abbrev pub IsPlan : Outcome → Option Catalog → Plan → Type 0
+IsPlan o set (plan.Search q) = IsQuery o q × IsSome set
+IsPlan o set (plan.Change e) = IsEntry o set e
 
 -- the plan or the refusal of what has this outcome where a catalog is set, or none
 pub record Plans (o : Outcome) (set : Option Catalog) (result : Result Plan Refusal) : Type 0 where
   pub plan : IfOk result (IsPlan o set)
-  pub short : IfOk result IsShort
   pub refused : IfErr result (MayRefuse o)

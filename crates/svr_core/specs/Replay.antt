@@ -1,27 +1,25 @@
 -- What is served after the records of a journal, one after the other.
-use Rattle.std.specs.Prelude.{◌≡◌, ◌+◌, ℕ, List, [], ◌∷◌, length, drop, Option, Some, None, option_map, ⊤}
+use Rattle.std.specs.Prelude.{◌≡◌, ◌+◌, ℕ, List, [], ◌∷◌, length, drop, Option, Some, None, ⊤}
 use Rattle.std.specs.Option.{option_and_then}
 use Rattle.svr_edge.specs.Disk.{DiskView, Reads}
 use Rattle.svr_journal.specs.File.{end_of}
 use Rattle.svr_journal.specs.Gates.{Gate, shut, broken, record_of, gate_of}
 use Rattle.svr_record.specs.declared.record.Record.{Record}
 use Rattle.svr_record.specs.Grammar.{record_in}
-use Rattle.svr_core.specs.Outcomes.{Outcome, refused, found, changes_to, entry_outcome}
-use Rattle.svr_core.specs.State.{Catalog, Served, empty}
+use Rattle.svr_core.specs.Edits.{served_with}
+use Rattle.svr_core.specs.Kept.{CoreValue, ServesAs}
+use Rattle.svr_core.specs.Outcomes.{Outcome, edits, entry_outcome, refused, searches}
+use Rattle.svr_core.specs.State.{Served, empty}
 
--- the catalog after what comes of a record, if it is accepted
-abbrev pub catalog_by : Outcome → Option Catalog
-catalog_by (refused why) = None
-catalog_by (found answer) = None
-catalog_by (changes_to c entry) = Some c
-
--- a change more was accepted
-abbrev pub with_catalog : Served → Catalog → Served
-with_catalog s c = record { catalog = Some c; changes = s.changes + 1 }
+-- what is served after what comes of a record, if it is accepted
+abbrev pub served_after : Served → Outcome → Option Served
+served_after s (refused why) = None
+served_after s (searches terms m k) = None
+served_after s (edits e entry) = Some (served_with s e)
 
 -- what is served after a record more, if it is accepted
 abbrev pub after_record : Served → Record → Option Served
-after_record s entry = option_map (with_catalog s) (catalog_by (entry_outcome s.catalog entry))
+after_record s entry = served_after s (entry_outcome s.catalog entry)
 
 -- the same of a body, if it says a record
 abbrev pub after_body : Served → List ℕ → Option Served
@@ -37,10 +35,12 @@ abbrev pub HasGates : List ℕ → ℕ → List (List ℕ) → ℕ → Type 0
 HasGates bytes place [] end = place ≡ end
 HasGates bytes place (body ∷ bodies) end = (gate_of (drop place bytes) ≡ record_of body) × HasGates bytes (place + 5 + length body) bodies end
 
--- the records that were read up to the closed gate at that place are accepted, and give what is served
-pub record Replays (disk : DiskView) (end : ℕ) (served : Served) : Type 0 where
+-- the records that were read up to the closed gate at that place are accepted, and give what is served by the core
+pub record Replays (disk : DiskView) (end : ℕ) (core : CoreValue) : Type 0 where
   pub bodies : List (List ℕ)
+  pub served : Served
   pub gives : replayed empty bodies ≡ Some served
+  pub serves : ServesAs core served
   pub at_end : end ≡ end_of bodies
   -- where the disk tells its bytes, these are the records there
   pub gates : (bytes : List ℕ) → Reads disk bytes → HasGates bytes 8 bodies end

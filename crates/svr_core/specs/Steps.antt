@@ -1,5 +1,5 @@
 -- Words of private clauses: what the parts of the program answer, beside the outcome of a request.
-use Rattle.std.specs.Prelude.{◌≡◌, ◌⊎◌, ◌<◌, ◌^◌, ℕ, List, None, Option, Some, Result, Err, IfErr, IfOk, OnOk}
+use Rattle.std.specs.Prelude.{◌≡◌, ◌⊎◌, ◌<◌, ◌^◌, ℕ, List, Option, Some, Result, Err, IfErr, IfOk}
 use Rattle.svr_request.specs.declared.refusal.Refusal.{Refusal}
 use Rattle.svr_request.specs.declared.refusal.Refusal.TheVariants as refusal
 use Rattle.svr_csvload.specs.declared.refusal.CsvRefusal.{CsvRefusal}
@@ -21,7 +21,9 @@ use Rattle.svr_core.specs.declared.replay.ReplayFault.TheVariants as fault
 use Rattle.svr_core.specs.Outcomes.{Outcome, refusal_of_row}
 use Rattle.svr_core.specs.Plans.{IsEdit, MayRefuse}
 use Rattle.svr_core.specs.Replay.{after_body}
-use Rattle.svr_core.specs.State.{Catalog, Served}
+use Rattle.svr_catalog.specs.Catalog.{Catalog}
+use Rattle.svr_core.specs.Kept.{CoreValue, ServesAs}
+use Rattle.svr_core.specs.State.{Served}
 
 abbrev pub query_refusal : QueryRefusal → Refusal
 query_refusal query.NoTerms = refusal.NoTerms
@@ -50,10 +52,11 @@ abbrev pub DeletesId : Change → Type 0
 DeletesId (change.Delete at id) = id < 2 ^ 63
 DeletesId _ = Unit {0}
 
--- what comes of a body that is read again
-pub record TakesBody (old new : Served) (body : List ℕ) (result : Result (Unit {0}) ReplayFault) : Type 0 where
-  pub ok : OnOk result (after_body old body ≡ Some new)
-  pub refused : result ≡ Err fault.Refused → after_body old body ≡ None
+-- a body is accepted behind what is served, and the core serves what is served after it
+pub record TakesBody (s : Served) (new : CoreValue) (body : List ℕ) : Type 0 where
+  pub next : Served
+  pub gives : after_body s body ≡ Some next
+  pub serves : ServesAs new next
 
 -- values make no row, at this column, or memory is wanting
 abbrev pub IsBadRow : Option ℕ → Refusal → Type 0

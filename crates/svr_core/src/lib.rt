@@ -1,14 +1,15 @@
-//! What is served: a schema and the rows of its tables; what requests come to over them, and what a journal's records give again.
+//! What is served: a schema, rows and lists; what requests come to over them, and what a journal's records give again.
 #![tactic(auto)]
 
-mod catalog;
-mod contents;
-mod document;
+mod loads;
 mod plan;
+mod plans;
+mod queries;
 mod refusals;
 mod replay;
-mod search;
 mod served;
+mod tables;
 
 pub use crate::plan::{Edit, Entry, Plan};
+pub use crate::queries::Query;
 pub use crate::served::Core;

@@ -1,13 +1,13 @@
+use crate::queries::Query;
 use svr_edge::Items;
-use svr_request::Answer;
 use svr_rows::{Change, Row};
 use svr_schema::Schema;
 
 /// What a request that isn't refused comes to. Making a plan changes nothing.
 #[derive(Drop)]
 pub enum Plan {
-    /// The answer to a search.
-    Answer(Answer),
+    /// A search that is to be made.
+    Search(Query),
     /// A change of what is served, and its record.
     Change(Entry),
 }

@@ -3,7 +3,9 @@ ghost use Rattle.svr_edge.specs.Disk.{Reads};
 ghost use Rattle.svr_journal.specs.Causes.{ReadsAlone};
 ghost use Rattle.svr_record.specs.Grammar.{record_in};
 ghost use Rattle.svr_record.specs.Limits.{IsRecord};
+ghost use Rattle.svr_core.specs.Kept.{ServesAs};
 ghost use Rattle.svr_core.specs.Replay.{IsAtFault, Replays, after_body};
+ghost use Rattle.svr_core.specs.State.{Served};
 ghost use Rattle.svr_core.specs.Steps.{TakesBody, error_at};
 
 use crate::served::Core;
@@ -75,7 +77,8 @@ impl Core {
     /// Makes the change of the record that a body says. After `Err` the core is spent.
     fn take(&mut self, alloc: Global, body: &[u8]) -> Result<(), ReplayFault>
         requires { self.old.changes + 1 < 2 ^ 64 }
-        ensures { TakesBody self.old self.new body.now result }
+        ensures taken { (s : Served) → ServesAs self.old s → OnOk result (TakesBody s self.new body.now) }
+        ensures refused { (s : Served) → ServesAs self.old s → result ≡ Err ReplayFault.Refused → after_body s body.now ≡ None }
     {
         let entry = record_of(alloc, body)?;
         let edit = self.edit_of(alloc, entry)?;
@@ -86,8 +89,9 @@ impl Core {
     /// The same for the record at a gate, which the error names.
     fn take_at(&mut self, alloc: Global, gate: u64, body: &[u8]) -> Result<(), JournalError>
         requires { self.old.changes + 1 < 2 ^ 64 }
-        ensures ok { OnOk result (after_body self.old body.now ≡ Some self.new) }
-        ensures fault { (at : ℕ) → result ≡ Err (JournalError.NotAJournal at) → (at ≡ gate) × (after_body self.old body.now ≡ None) }
+        ensures ok { (s : Served) → ServesAs self.old s → OnOk result (TakesBody s self.new body.now) }
+        ensures fault { (s : Served) (at : ℕ) → ServesAs self.old s → result ≡ Err (JournalError.NotAJournal at)
+            → (at ≡ gate) × (after_body s body.now ≡ None) }
         ensures device { result ≢ Err JournalError.Device }
     {
         match self.take(alloc, body) {

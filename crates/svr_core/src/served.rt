@@ -1,27 +1,41 @@
-ghost use Rattle.std.specs.Prelude.{◌≡◌, ◌+◌, ◌<◌, ◌≤◌, ◌^◌, length, Some, IfOk, IfErr, OnOk, OnErr};
+ghost use Rattle.std.specs.Prelude.{◌≡◌, ◌+◌, ◌<◌, ◌≤◌, ◌^◌, length, Some, IfOk, OnOk, OnErr, option_map};
+ghost use Rattle.std.specs.Option.{ForSome, IsSome};
 ghost use Rattle.serde_json.specs.View.{view};
 ghost use Rattle.serde_json.specs.Written.{compact_text};
+ghost use Rattle.svr_catalog.specs.Stands.{Stands};
+ghost use Rattle.svr_iter.specs.Reader.{KeepsReader};
+ghost use Rattle.svr_listing.specs.Kept.{HoldsPosted};
+ghost use Rattle.svr_postpage.specs.Wanted.{pairs_told};
 ghost use Rattle.svr_record.specs.Bodies.{body_of};
 ghost use Rattle.svr_record.specs.Limits.{IsRecord};
 ghost use Rattle.svr_request.specs.Requests.{seen, seen_or_refused, value_in, with_block};
 ghost use Rattle.svr_schema.specs.Rules.{IsWritable};
-ghost use Rattle.svr_core.specs.Edits.{Accepts, edited};
-ghost use Rattle.svr_core.specs.Outcomes.{changes_to, entry_outcome, is_plain, outcome_of, refused, schema_outcome, served_so_far};
-ghost use Rattle.svr_core.specs.Outcomes.{text_outcome, wanted_outcome};
-ghost use Rattle.svr_core.specs.Plans.{Plans};
-ghost use Rattle.svr_core.specs.State.{empty, new_catalog};
+ghost use Rattle.svr_core.specs.Answers.{answer_in};
+ghost use Rattle.svr_core.specs.Asked.{AsksNeeded};
+ghost use Rattle.svr_core.specs.Edits.{Accepts, edited, relisted, served_with};
+ghost use Rattle.svr_core.specs.Kept.{ServesAs, catalog_of};
+ghost use Rattle.svr_core.specs.Outcomes.{entry_outcome, outcome_over, schema_outcome, text_outcome, wanted_outcome};
+ghost use Rattle.svr_core.specs.Plans.{MayAsk, Plans};
+ghost use Rattle.svr_core.specs.State.{Served, empty};
 ghost use Rattle.svr_core.specs.Steps.{Edits};
 
-use crate::catalog::Catalog;
+use crate::loads::{edit_placed, plan_load};
 use crate::plan::{Edit, Entry, Plan};
+use crate::plans::{edit_change, plan_delete, plan_insert, plan_update};
+use crate::queries::{Query, query_of};
 use crate::refusals::refused_schema;
 use serde_json::Value;
 use std::alloc::Global;
-use std::marker::Model;
+use std::marker::{Brand, Model};
+use std::sync::ledger::{Blank, Ledger};
+use svr_catalog::Catalog;
 use svr_edge::{Items, Memory};
+use svr_iter::ScanFault;
+use svr_postpage::PageReader;
 use svr_record::{Record, write_schema};
-use svr_request::{Refusal, Request, SchemaValue};
-use svr_schema::{MethodSpec, Schema, read_schema};
+use svr_request::{Answer, Refusal, Request, SchemaValue};
+use svr_schema::read_schema;
+use svr_steps::Steps;
 
 /// What is served.
 #[derive(Drop)]
@@ -31,17 +45,17 @@ pub struct Core {
 }
 
 impl Model for Core {
-    ghost use Rattle.svr_core.specs.State.{Served};
+    ghost use Rattle.svr_core.specs.Kept.{CoreValue};
 
-    ghost Value = { Served };
+    ghost Value = { CoreValue };
 
-    ghost view = { λ c. record { catalog = c.catalog; changes = c.changes } };
+    ghost view = { λ c. record { kept = c.catalog; changes = c.changes } };
 }
 
 impl Core {
     /// No schema is set, and no change was accepted.
     pub fn empty() -> Core
-        ensures { result ≡ empty }
+        ensures { ServesAs result empty }
     {
         Core {
             catalog: None,
@@ -58,7 +72,7 @@ impl Core {
 
     /// What a request comes to, with the block that comes with it, or why it is refused. Nothing is changed: a change is made by
     /// `make`, once its record is kept.
-    #[tactic(auto, unfolding(crate::specs::Outcomes::outcome_of))]
+    #[tactic(auto, unfolding(crate::specs::Outcomes::outcome_over))]
     pub fn plan(
         &self,
         alloc: Global,
@@ -66,14 +80,14 @@ impl Core {
         block: &[u8],
     ) -> Result<Plan, Refusal>
         requires { length block.now ≤ 8388608 }
-        ensures { Plans (outcome_of self.now (with_block (seen_or_refused request) block.now)) self.now.catalog result }
+        ensures { Plans (outcome_over (catalog_of self.now) (with_block (seen_or_refused request) block.now)) (catalog_of self.now) result }
     {
         self.plan_request(alloc, request?, block)
     }
 
     fn plan_request(&self, alloc: Global, request: Request, block: &[u8]) -> Result<Plan, Refusal>
         requires { length block.now ≤ 8388608 }
-        ensures { Plans (wanted_outcome self.now.catalog (seen request) block.now) self.now.catalog result }
+        ensures { Plans (wanted_outcome (catalog_of self.now) (seen request) block.now) (catalog_of self.now) result }
     {
         match (request, &self.catalog) {
             (Request::Schema(schema), _) => self.plan_schema(alloc, &schema),
@@ -86,27 +100,27 @@ impl Core {
             ) => Err(Refusal::UnknownOp),
             (_, None) => Err(Refusal::NoSchema),
             (Request::Insert { table, row }, Some(catalog)) => {
-                catalog.plan_insert(alloc, table.as_str(), row)
+                plan_insert(alloc, catalog, table.as_str(), row)
             }
             (Request::Update { table, row }, Some(catalog)) => {
-                catalog.plan_update(alloc, table.as_str(), row)
+                plan_update(alloc, catalog, table.as_str(), row)
             }
             (Request::Delete { table, id }, Some(catalog)) => {
-                catalog.plan_delete(alloc, table.as_str(), id)
+                plan_delete(alloc, catalog, table.as_str(), id)
             }
             (Request::Load { table, header }, Some(catalog)) => {
-                catalog.plan_load(alloc, table.as_str(), header, block)
+                plan_load(alloc, catalog, table.as_str(), header, block)
             }
-            (Request::Search { query, mode, k }, Some(catalog)) => {
-                let answer = catalog.search(alloc, query.as_str(), mode, k)?;
-                Ok(Plan::Answer(answer))
+            (Request::Search { query, mode, k }, Some(_)) => {
+                let query = query_of(alloc, query.as_str(), mode, k)?;
+                Ok(Plan::Search(query))
             }
         }
     }
 
     /// To take a value as the schema.
     fn plan_schema(&self, alloc: Global, schema: &SchemaValue) -> Result<Plan, Refusal>
-        ensures { Plans (schema_outcome self.now.catalog (view schema.now.value)) self.now.catalog result }
+        ensures { Plans (schema_outcome (catalog_of self.now) (view schema.now.value)) (catalog_of self.now) result }
     {
         let edit = self.edit_schema(alloc, &schema.value)?;
         let body = schema_body(alloc, schema)?;
@@ -118,14 +132,13 @@ impl Core {
 
     /// The schema that a value says, where none is set.
     fn edit_schema(&self, alloc: Global, value: &Value) -> Result<Edit, Refusal>
-        ensures edit { Edits (schema_outcome self.now.catalog (view value.now)) self.now.catalog result }
+        ensures edit { Edits (schema_outcome (catalog_of self.now) (view value.now)) (catalog_of self.now) result }
         ensures text { OnOk result (IsWritable (view value.now)) }
     {
         if self.catalog.is_some() {
             return Err(Refusal::SchemaSet);
         }
         let schema = read_schema(alloc, value).map_err(refused_schema)?;
-        check_served(value, &schema)?;
         Ok(Edit::Schema(schema))
     }
 
@@ -133,13 +146,13 @@ impl Core {
     #[tactic(auto, unfolding(crate::specs::Outcomes::entry_outcome))]
     pub(crate) fn edit_of(&self, alloc: Global, entry: Record) -> Result<Edit, Refusal>
         requires { IsRecord entry }
-        ensures { Edits (entry_outcome self.now.catalog entry) self.now.catalog result }
+        ensures { Edits (entry_outcome (catalog_of self.now) entry) (catalog_of self.now) result }
     {
         match (entry, &self.catalog) {
             (Record::Schema(text), _) => self.edit_text(alloc, text.as_slice()),
             (Record::Begin | Record::Slice { .. } | Record::Publish, _) => Err(Refusal::UnknownOp),
             (_, None) => Err(Refusal::NoSchema),
-            (Record::Change(change), Some(catalog)) => catalog.edit_change(change),
+            (Record::Change(change), Some(catalog)) => edit_change(catalog, change),
             (
                 Record::Load {
                     table,
@@ -147,13 +160,13 @@ impl Core {
                     block,
                 },
                 Some(catalog),
-            ) => catalog.edit_placed(alloc, table, header, block.as_slice()),
+            ) => edit_placed(alloc, catalog, table, header, block.as_slice()),
         }
     }
 
     /// The schema that a text says.
     fn edit_text(&self, alloc: Global, text: &[u8]) -> Result<Edit, Refusal>
-        ensures { Edits (text_outcome self.now.catalog (value_in text.now)) self.now.catalog result }
+        ensures { Edits (text_outcome (catalog_of self.now) (value_in text.now)) (catalog_of self.now) result }
     {
         match Value::from_slice(alloc, text) {
             Ok(value) => self.edit_schema(alloc, &value),
@@ -168,15 +181,40 @@ impl Core {
 
     /// Makes an edit, and counts it. After `Err` the core is spent: of the catalog nothing is said.
     pub fn make(&mut self, alloc: Global, edit: Edit) -> Result<(), Memory>
-        requires accepted { Accepts self.old.catalog edit }
+        requires accepted { Accepts (catalog_of self.old) edit }
         requires changes { self.old.changes + 1 < 2 ^ 64 }
-        ensures made { OnOk result (self.new ≡ record { catalog = edited self.old.catalog edit; changes = self.old.changes + 1 }) }
+        ensures made { (s : Served) → ServesAs self.old s → OnOk result (ServesAs self.new (served_with s edit)) }
+        ensures changes { OnOk result (self.new.changes ≡ self.old.changes + 1) }
         ensures spent { OnErr result (self.new.changes ≡ self.old.changes) }
     {
-        let catalog = edited(alloc, self.catalog.take(), edit)?;
+        let catalog = edited::<Brand>(alloc, self.catalog.take(), edit, Blank::new(1))?;
         self.catalog = Some(catalog);
         self.changes += 1;
         Ok(())
+    }
+
+    /// The best `k` documents that match a query.
+    ///
+    /// Errors: `Page`, where a page could not be read, or stands there no more; `Memory`.
+    pub fn search<R: PageReader>(
+        &self,
+        alloc: Global,
+        query: &Query,
+        reader: &mut R,
+    ) -> Result<Answer, ScanFault>
+        requires set { IsSome (catalog_of self.now) }
+        requires query { MayAsk query.now }
+        requires ready { R.ready reader.old }
+        ensures answer { IfOk result (λ answer. ForSome (R.told reader.old) (λ bytes. (s : Served) → ServesAs self.now s
+            → HoldsPosted (pairs_told bytes) s.listed.listing → answer ≡ answer_in s query.now.terms query.now.mode query.now.k)) }
+        ensures short { IfOk result (λ answer. length answer.hits ≤ 1000) }
+        ensures asks { AsksNeeded (R.told reader.old) R.gives R.fails self.now query.now reader.old reader.new result }
+        ensures reader { KeepsReader R.told R.ready R.faults reader.old reader.new result }
+    {
+        match &self.catalog {
+            Some(catalog) => catalog.search(alloc, &query.terms, query.mode, query.k, reader),
+            None => unreachable!(),
+        }
     }
 }
 
@@ -191,35 +229,27 @@ fn schema_body(alloc: Global, schema: &SchemaValue) -> Result<Vec<u8>, Memory>
     write_schema(alloc, text.as_slice())
 }
 
-/// The catalog after an edit.
-fn edited(alloc: Global, catalog: Option<Catalog>, edit: Edit) -> Result<Catalog, Memory>
-    requires { Accepts catalog edit }
-    ensures { IfOk result (λ after. edited catalog edit ≡ Some after) }
+/// The catalog after an edit. Its steps are counted in a ledger of their own.
+fn edited<L: Ledger>(
+    alloc: Global,
+    catalog: Option<Catalog>,
+    edit: Edit,
+    blank: Blank,
+) -> Result<Catalog, Memory>
+    requires accepted { Accepts (option_map (λ v. v.catalog) catalog) edit }
+    requires name { blank.name ≡ L.name }
+    requires parts { blank.parts ≡ L.parts }
+    requires some { 0 < blank.parts }
+    ensures { IfOk result (λ after. (s : Served) → (option_map (λ v. v.catalog) catalog ≡ s.catalog)
+        → ForSome catalog (λ v. Stands v s.listed) → (edited s.catalog edit ≡ Some after.catalog) × Stands after (relisted s.catalog s.listed edit)) }
 {
+    let mut steps = Steps::<L>::new(blank);
     match (edit, catalog) {
         (Edit::Schema(schema), _) => Catalog::new(alloc, schema),
-        (Edit::Change(change), Some(catalog)) => catalog.with_change(alloc, change),
+        (Edit::Change(change), Some(catalog)) => catalog.with_change(alloc, change, &mut steps),
         (Edit::Load { table, rows }, Some(catalog)) => {
-            catalog.with_rows(alloc, table, rows.into_vec())
+            catalog.with_rows(alloc, table, rows.into_vec(), &mut steps)
         }
         (_, None) => unreachable!(),
     }
-}
-
-/// Tests that documents are listed by id.
-fn check_served(value: &Value, schema: &Schema) -> Result<(), Refusal>
-    ensures ok { OnOk result (served_so_far (view value.now) schema.now
-        ≡ changes_to (new_catalog schema.now) (Record.Schema (compact_text (view value.now)))) }
-    ensures refused { IfErr result (λ why. served_so_far (view value.now) schema.now ≡ refused why) }
-{
-    if !is_plain(&schema.method) {
-        return Err(Refusal::BadSchema { rule: 14 });
-    }
-    Ok(())
-}
-
-fn is_plain(method: &MethodSpec) -> bool
-    ensures { result ≡ is_plain method.now }
-{
-    matches!(method, MethodSpec::Id)
 }

@@ -17,7 +17,7 @@ use Rattle.svr_listing.specs.Kept.{IsListing}
 use Rattle.svr_listing.specs.Listing.{Listing, document_at, documents_of, entry_of, has_pair, posted}
 use Rattle.svr_listing.proofs.Finding.{by_option, find-document, found, id_found, some_of}
 use Rattle.svr_listing.specs.Methods.{Rules}
-use Rattle.svr_index.specs.Index.{DiffersAt, Indexed, StandsFor, mark_by_listing}
+use Rattle.svr_index.specs.Index.{DiffersAt, Indexed, StandsFor, mark_by_listing, stays_listed}
 use Rattle.svr_short.specs.Short.{HasMarks, KeepsOthers, adds_at, edited_at, mark_added, mark_in, mark_removed}
 use Rattle.svr_tokens.specs.Tokens.{has_term}
 
@@ -197,6 +197,14 @@ mark-edited false true false true true old e = rw e refl
 mark-edited false true false false true old e = rw e refl
 mark-edited had has moved there false old e = sym e
 
+-- an id that has a value may be said to be given it
+pub set-again : (entries : List (ℕ × ListKey)) (id : ℕ) (entry : ListKey) → value_at entries id ≡ Some entry → SetsValue entries entries id (Some entry)
+set-again entries id entry e other = by (id == other) refl
+  where
+    by : (b : Bool) → (id == other) ≡ b → value_at entries other ≡ cond b (Some entry) (value_at entries other)
+    by true same = subst (λ (n : ℕ). value_at entries n ≡ Some entry) (eqb-true id other same) e
+    by false away = refl
+
 -- a document stays at its key, with the terms that it has now
 pub follows-stays : (tokens : List ℕ → List (List ℕ)) (old new : Indexed) (l : Listing) (now : List Document) (id : ℕ)
     (had terms : List (List ℕ)) (b d : Document) (entry : ListKey) → IsListing tokens l → StandsFor old l → DiffersAt id (documents_of l) now
@@ -212,7 +220,7 @@ follows-stays tokens old new l now id had terms b d entry is stood differs e_b e
     let place_before : at l id ≡ Some (record { document = b; entry = entry }) = at-before l id b entry e_b was in
     stands-after tokens old new l now id is stood differs method pages
     (λ other. ap (λ (es : List (ℕ × ListKey)). value_at es other) entries
-    ∙ by_id other (id == other) refl
+    ∙ set-again old.entries id entry (stood.entries id ∙ was) other
     ∙ ap (λ (o : Option Listed). cond (id == other) (option_map (λ (d : Listed). d.entry) o) (value_at old.entries other)) (sym place))
     others
     (λ term key. marks term key ∙ sym (mark-edited (list_any (bytes_eq term) had) (list_any (bytes_eq term) terms) entry.moved
@@ -222,10 +230,6 @@ follows-stays tokens old new l now id had terms b d entry is stood differs e_b e
     ∙ ap (λ (ts : List (List ℕ)). cond (entry.key == key) (mark_for (list_any (bytes_eq term) ts) entry.moved (is_there l term entry id)) None) (sym terms_are)
     ∙ sym (mark-is l term key id d entry (id_found now id d e_d))
     ∙ ap (mark_here l term key) (sym place))
-  where
-    by_id : (other : ℕ) (b : Bool) → (id == other) ≡ b → value_at old.entries other ≡ cond b (Some entry) (value_at old.entries other)
-    by_id other true e = subst (λ (n : ℕ). value_at old.entries n ≡ Some entry) (eqb-true id other e) (stood.entries id ∙ was)
-    by_id other false e = refl
 
 -- a key that a method gives is the key of the listing's rules
 pub rules-key : (old : Indexed) (l : Listing) (method : Chosen) (score k : ℕ) → StandsFor old l → method ≡ old.method
@@ -240,6 +244,18 @@ pub rules-stay : (old : Indexed) (l : Listing) (method : Chosen) (score key : �
     → b ≡ (chosen_rules method).stays score key → l.rules.stays score key ≡ b
 rules-stay old l method score key b stood same e =
     sym (e ∙ ap (λ (m : Chosen). (chosen_rules m).stays score key) same ∙ ap (λ (r : Rules). r.stays score key) stood.rules)
+
+-- a document that doesn't stay at its key is moved, and so is one that isn't listed
+pub entry_now-moved : (rules : Rules) (score : ℕ) (entry : Option ListKey) → stays_listed rules score entry ≡ false
+    → entry_now rules score entry ≡ moved_to rules score
+entry_now-moved rules score None e = refl
+entry_now-moved rules score (Some entry) e = ap (λ (b : Bool). cond b entry (moved_to rules score)) e
+
+-- one that stays has its entry still
+pub entry_now-stays : (rules : Rules) (score : ℕ) (entry : Option ListKey) → stays_listed rules score entry ≡ true
+    → entry ≡ Some (entry_now rules score entry)
+entry_now-stays rules score None e = absurd (cc)
+entry_now-stays rules score (Some entry) e = sym (ap (λ (b : Bool). Some (cond b entry (moved_to rules score))) e)
 
 -- the entry of a listed document is that of the listing
 pub was_listed : (old : Indexed) (l : Listing) (entries : List (ℕ × ListKey)) (id : ℕ) (entry : ListKey) → StandsFor old l

@@ -23,9 +23,10 @@ use Rattle.svr_listing.proofs.Finding.{weaker}
 use Rattle.svr_listing.proofs.Joining.{higher}
 use Rattle.svr_listing.proofs.Under.{in_term_groups}
 use Rattle.svr_long.specs.Cursor.{page_pairs}
-use Rattle.svr_index.specs.Docs.{StandUnder}
+use Rattle.svr_index.specs.Docs.{StandUnder, refs_at}
 use Rattle.svr_index.specs.Index.{Indexed}
 use Rattle.svr_index.specs.Layout.{IsListOf, TermList, groups_of_list}
+use Rattle.svr_index.proofs.Told.{IsSound, ids-told}
 
 -- ---- ids that differ
 
@@ -120,14 +121,15 @@ up-under p (d ∷ ds) up = by (p d) (up-under p ds up.1)
     by true rest = (higher d.document.id p ds up.0, rest)
     by false rest = rest
 
--- the ids of all groups of a list, in their order, are those of the documents that stand under its term
+-- the ids of all groups of a list, in their order, are those of the documents that stand under its term, where no page is damaged
 pub stand-under : (index : Indexed) (term : List ℕ) (list : TermList) (bytes gathered ids : List ℕ) → IsListOf index term list
-    → gathered ≡ ids_in (groups_of_list list bytes) → ((id : ℕ) → is_in id ids ≡ is_in id gathered) → IsStrictlyIncreasing ids
+    → AllByRecursion (IsSound bytes) (refs_at index term) → gathered ≡ ids_in (groups_of_list list bytes) → ((id : ℕ) → is_in id ids ≡ is_in id gathered) → IsStrictlyIncreasing ids
     → StandUnder index term bytes ids
-stand-under index term list bytes gathered ids is all same up = λ l ascends stood.
+stand-under index term list bytes gathered ids is sound all same up = λ l ascends stood.
     same_ids ids (ids_under (stands_by (page_pairs bytes) l term) l) (Up-from ids up)
     (up-under (stands_by (page_pairs bytes) l term) l.documents ascends)
     (λ id. same id ∙ ap (is_in id) (all ∙ ap ids_in (is.groups_are l bytes ascends stood)) ∙ in_term_groups (page_pairs bytes) l term id)
+    ∙ ids-told bytes l term (subst (AllByRecursion (IsSound bytes)) (stood.pages term) sound)
 
 -- ---- sorted ids
 

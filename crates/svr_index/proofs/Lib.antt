@@ -1,4 +1,5 @@
 pub mod Asked
+pub mod EachPage
 pub mod Following
 pub mod Gathering
 pub mod Lists

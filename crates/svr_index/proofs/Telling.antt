@@ -14,7 +14,7 @@ use Rattle.svr_postpage.specs.declared.pair.Pair.{Pair}
 use Rattle.svr_short.proofs.Marking.{mark_of-marks_of}
 use Rattle.svr_short.specs.Short.{marks_of}
 use Rattle.svr_index.specs.Index.{Indexed, StandsFor}
-use Rattle.svr_index.specs.Layout.{refs_at}
+use Rattle.svr_index.specs.Docs.{refs_at}
 
 pub tells : (index : Indexed) (l : Listing) (term bytes : List ℕ) → Ascends (documents_of l) → StandsFor index l
     → are_heads (refs_at index term) ≡ true

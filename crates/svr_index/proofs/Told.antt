@@ -12,6 +12,7 @@ use Rattle.svr_chunks.specs.Chosen.{chosen_lawful}
 use Rattle.svr_listing.specs.Kept.{Ascends}
 use Rattle.svr_listing.specs.Listing.{Listing, documents_of, entry_of, groups_by, groups_by_bytes, has_pair, has_term, held, is_held, keys_by, listed_at}
 use Rattle.svr_listing.specs.Listing.{pages_at, pages_of, pairs_by, posted, refs_of, same_pair, stands_by, stands_under}
+use Rattle.svr_listing.specs.Merges.{ids_under}
 use Rattle.svr_listing.specs.Methods.{Rules}
 use Rattle.svr_listing.specs.Visits.{IsAnswer, pages_visited}
 use Rattle.svr_listing.specs.declared.document.Listed.{Listed}
@@ -65,6 +66,29 @@ sound-some bytes page sound none = by (page_in (bytes_at bytes page.at)) refl so
             empty : (ps : List Pair) → ps ≡ [] → fill_a_page ps ≡ true → ⊥
             empty [] same fill = absurd (cc)
             empty (p ∷ ps) same fill = absurd (cc)
+
+-- its pairs by the bytes told are those that count
+told-is : (bytes : List ℕ) (page : PageRef) → IsSound bytes page → page_pairs bytes page ≡ pairs_told bytes page
+told-is bytes page sound = by (pairs_told bytes page) refl
+  where
+    by : (ps : List Pair) → pairs_told bytes page ≡ ps → page_pairs bytes page ≡ pairs_told bytes page
+    by [] e = absurd (sound-some bytes page sound e)
+    by (p ∷ ps) e = ap (or_first page) e ∙ sym e
+
+pairs-told : (bytes : List ℕ) (pages : List Page) → AllByRecursion (IsSound bytes) (map (λ (page : Page). page.head) pages)
+    → pairs_by (page_pairs bytes) pages ≡ pairs_by (pairs_told bytes) pages
+pairs-told bytes [] sound = refl
+pairs-told bytes (page ∷ []) sound = told-is bytes page.head sound.0
+pairs-told bytes (page ∷ next ∷ pages) sound =
+    ap₂ (λ (a b : List Pair). filter (λ pair. is_before pair (first_pair next.head)) a ++ b) (told-is bytes page.head sound.0)
+    (pairs-told bytes (next ∷ pages) sound.1)
+
+-- where no page of a term is damaged, those that stand under it are the same by either
+pub ids-told : (bytes : List ℕ) (l : Listing) (term : List ℕ) → AllByRecursion (IsSound bytes) (map (λ (page : Page). page.head) (pages_of l.lists term))
+    → ids_under (stands_by (page_pairs bytes) l term) l ≡ ids_under (stands_by (pairs_told bytes) l term) l
+ids-told bytes l term sound =
+    ap (λ (ps : List Pair). ids_under (λ d. is_held l term d || (not d.entry.moved && (has_pair (listed_at d) ps
+    && not (has_pair (listed_at d) (posted l term) && not (has_term d.document term))))) l) (pairs-told bytes (pages_of l.lists term) sound)
 
 -- ---- tests that only pairs at visited keys pass
 

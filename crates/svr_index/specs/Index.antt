@@ -4,13 +4,14 @@ use Rattle.svr_num.specs.declared.list_key.ListKey.{ListKey}
 use Rattle.svr_postpage.specs.declared.page_ref.PageRef.{PageRef}
 use Rattle.svr_chunks.specs.Chosen.{chosen_rules}
 use Rattle.svr_chunks.specs.declared.chosen.Chosen.{Chosen}
-use Rattle.svr_idmap.specs.Ids.{value_at}
+use Rattle.svr_idmap.specs.Ids.{SetsValue, value_at}
 use Rattle.svr_iter.specs.Effective.{mark_here}
 use Rattle.svr_iter.specs.declared.marks.Mark.{Mark}
 use Rattle.svr_listing.specs.declared.document.Document.{Document}
 use Rattle.svr_listing.specs.Changes.{changed}
 use Rattle.svr_listing.specs.Kept.{IsListing}
 use Rattle.svr_listing.specs.Listing.{Listing, document_at, documents_of, entry_of, pages_of}
+use Rattle.svr_listing.specs.Methods.{Rules}
 use Rattle.svr_long.specs.Lists.{pages_at}
 use Rattle.svr_short.specs.Short.{Lists, mark_in}
 
@@ -54,6 +55,23 @@ Follows old new id Change =
     → DiffersAt id (documents_of l) now → Change (document_at (documents_of l) id) (document_at now id)
     → StandsFor new (changed l now)
 
+-- method and posted pages are as before, and one document has this entry now, or none; every other has its own
+pub record SetsEntry (old new : Indexed) (id : ℕ) (entry : Option ListKey) : Type 0 where
+  pub method : new.method ≡ old.method
+  pub pages : new.pages ≡ old.pages
+  pub entries : SetsValue old.entries new.entries id entry
+
+-- method, posted pages and entries are as before
+pub record KeepsEntries (old new : Indexed) : Type 0 where
+  pub method : new.method ≡ old.method
+  pub pages : new.pages ≡ old.pages
+  pub entries : new.entries ≡ old.entries
+
+-- whether a document with this entry, if it is listed, stays there with a score
+abbrev pub stays_listed : Rules → ℕ → Option ListKey → Bool
+stays_listed rules score None = false
+stays_listed rules score (Some entry) = rules.stays score entry.key
+
 -- a document stands that has this score and these terms
 pub record IsWith (score : ℕ) (terms : List (List ℕ)) (document : Option Document) : Type 0 where
   pub it : Document
@@ -94,6 +112,12 @@ pub record IsFresh (method : Chosen) (entries : List (ℕ × ListKey)) (pages : 
   pub entries_are : (id : ℕ) → value_at entries id ≡ entry_of l.documents id
   pub pages_are : (term : List ℕ) → unwrap_or (pages_at pages term) [] ≡ map (λ page. page.head) (pages_of l.lists term)
   pub unmarked : (term : List ℕ) (key id : ℕ) → is_moved (entry_of l.documents id) ≡ false → mark_by_listing l term key id ≡ None
+
+-- an index has this method, these entries and these posted pages
+pub record Takes (index : Indexed) (method : Chosen) (entries : List (ℕ × ListKey)) (pages : List (List ℕ × List PageRef)) : Type 0 where
+  pub method_is : index.method ≡ method
+  pub entries_are : index.entries ≡ entries
+  pub pages_are : index.pages ≡ pages
 
 -- an index stands for such a listing, but for its moved documents, which are still to be placed
 abbrev pub Installs : Indexed → Chosen → List (ℕ × ListKey) → List (List ℕ × List PageRef) → Type 0

@@ -1,5 +1,5 @@
 -- Words of private clauses: the lists of single terms that a search goes over.
-use Rattle.std.specs.Prelude.{◌≡◌, ℕ, Bool, List, [], ◌∷◌, ⊤, Option, drop, unwrap_or}
+use Rattle.std.specs.Prelude.{◌≡◌, ℕ, zero, suc, Bool, true, List, [], ◌∷◌, ◌++◌, ⊤, Option, drop}
 use Rattle.svr_idmap.specs.Ids.{value_at}
 use Rattle.svr_iter.specs.Marks.{is_listed, live_groups}
 use Rattle.svr_iter.specs.MemPairs.{grouped}
@@ -12,17 +12,19 @@ use Rattle.svr_listing.specs.declared.group.Group.{Group}
 use Rattle.svr_listkey.specs.declared.list_keys.ListKeys.{ListKeys}
 use Rattle.svr_long.specs.Cursor.{page_pairs, pages_of_key, pairs_left}
 use Rattle.svr_long.specs.declared.cursor.LongCursor.{LongCursor}
-use Rattle.svr_long.specs.Lists.{pages_at}
+use Rattle.svr_long.specs.Heads.{are_heads}
 use Rattle.svr_num.specs.declared.hit.Hit.{Hit}
 use Rattle.svr_num.specs.declared.mode.Mode.{Mode}
 use Rattle.svr_postpage.specs.declared.page_ref.PageRef.{PageRef}
 use Rattle.svr_short.specs.Short.{marks_of}
 use Rattle.svr_short.specs.declared.short_lists.ShortLists.{ShortLists}
+use Rattle.svr_index.specs.Docs.{refs_at}
 use Rattle.svr_index.specs.Index.{Indexed, StandsFor}
 
--- the posted pages of a term
-abbrev pub refs_at : Indexed → List ℕ → List PageRef
-refs_at index term = unwrap_or (pages_at index.pages term) []
+-- the pages of all keys below a number, by descending keys
+unfoldable pub pages_below : (ℕ → List PageRef) → ℕ → List PageRef
+pages_below pages zero = []
+pages_below pages (suc n) = pages n ++ pages_below pages n
 
 -- a list of one term: its posted pages, its marks, and the entries of documents
 abbrev pub TermList : Type 0
@@ -45,6 +47,7 @@ pub record IsListOf (index : Indexed) (term : List ℕ) (list : TermList) : Type
       → groups_of_list list bytes ≡ term_groups (page_pairs bytes) l term
   pub may_is : may_of_list list ≡ is_listed (value_at index.entries)
   pub pages_are : (key : ℕ) → pages_of_list list key ≡ pages_of_key key (refs_at index term)
+  pub heads : are_heads (refs_at index term) ≡ true
 
 -- one list for each of the terms
 abbrev pub AreListsOf : Indexed → List (List ℕ) → List TermList → Type 0

@@ -2,10 +2,12 @@ ghost use Rattle.std.specs.Prelude.{◌≡◌, ◌<◌, ◌^◌, ◌++◌, ◌==
 ghost use Rattle.std.specs.List.{IsDistinct};
 ghost use Rattle.std.specs.List.Sorted.{IsStrictlyIncreasing};
 ghost use Rattle.std.specs.Option.{ForSome};
+ghost use Rattle.svr_iter.specs.Asked.{Asks};
 ghost use Rattle.svr_iter.specs.Reader.{KeepsReader};
 ghost use Rattle.svr_listing.specs.Groups.{ids_in};
 ghost use Rattle.svr_listing.specs.Joined.{is_in};
-ghost use Rattle.svr_index.specs.Docs.{StandUnder};
+ghost use Rattle.svr_index.specs.Docs.{StandUnder, refs_at};
+ghost use Rattle.svr_index.specs.Layout.{pages_below};
 
 use crate::index::Index;
 use std::alloc::Global;
@@ -33,6 +35,7 @@ fn gather<P: Postings, R: PageReader>(
     ensures all { IfOk result (λ ids. ForSome (R.told reader.old) (λ bytes. ids.items ≡ ids_in (P.groups list.old bytes))) }
     ensures differ { IfOk result (λ ids. IsDistinct (λ a b. a == b) ids.items) }
     ensures fit { IfOk result (λ ids. All (λ id. id < 2 ^ 63) ids.items) }
+    ensures asks { Asks R.gives R.fails (pages_below (P.pages list.old) (2 ^ 48)) reader.old reader.new result }
     ensures reader { KeepsReader R.told R.ready R.faults reader.old reader.new result }
 {
     let mut all = Vec::new(alloc);
@@ -56,7 +59,7 @@ fn sort_ids(ids: &mut [DocId])
 }
 
 impl Index {
-    /// The ids of the documents that stand under a term by the bytes of its pages, ascending.
+    /// The ids of the documents that stand under a term by the bytes of its pages, ascending. It asks for each page of the term once.
     ///
     /// Errors: `Page`, where a page could not be read, or stands there no more; `Memory`.
     pub fn term_docs<R: PageReader>(
@@ -69,6 +72,7 @@ impl Index {
         ensures ids { IfOk result (λ ids. ForSome (R.told reader.old) (λ bytes. StandUnder self.now term.now bytes ids.items)) }
         ensures ascending { IfOk result (λ ids. IsStrictlyIncreasing ids.items) }
         ensures fit { IfOk result (λ ids. All (λ id. id < 2 ^ 63) ids.items) }
+        ensures asks { Asks R.gives R.fails (refs_at self.now term.now) reader.old reader.new result }
         ensures reader { KeepsReader R.told R.ready R.faults reader.old reader.new result }
     {
         let mut list = self.list_of(alloc, term);

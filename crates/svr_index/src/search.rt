@@ -85,6 +85,7 @@ impl Index {
         requires bounded { AreWithinBounds self.now (S.score_of scores.now) }
         ensures answer { IfOk result (λ answer. ForSome (R.told reader.old) (λ bytes.
             AnswersByHeads self.now terms.now mode.All k (S.score_of scores.now) bytes answer.hits answer.groups)) }
+        ensures short { IfOk result (λ answer. length answer.hits ≤ k) }
         ensures asks { AsksFor (R.told reader.old) R.gives R.fails self.now terms.now mode.All k (S.score_of scores.now)
             reader.old reader.new result }
         ensures reader { KeepsReader R.told R.ready R.faults reader.old reader.new result }
@@ -114,6 +115,7 @@ impl Index {
         requires bounded { AreWithinBounds self.now (S.score_of scores.now) }
         ensures answer { IfOk result (λ answer. ForSome (R.told reader.old) (λ bytes.
             AnswersByHeads self.now terms.now mode.Any k (S.score_of scores.now) bytes answer.hits answer.groups)) }
+        ensures short { IfOk result (λ answer. length answer.hits ≤ k) }
         ensures asks { AsksFor (R.told reader.old) R.gives R.fails self.now terms.now mode.Any k (S.score_of scores.now)
             reader.old reader.new result }
         ensures reader { KeepsReader R.told R.ready R.faults reader.old reader.new result }
@@ -122,33 +124,6 @@ impl Index {
         self.push_lists(alloc, terms, 0, terms.len(), &mut lists)?;
         let mut matches = AnyOf::new(alloc, lists);
         scan(alloc, k, &mut matches, reader, scores, &self.method)
-    }
-
-    /// Searches for documents with all, or any, of the terms.
-    fn search_lists<S: Scores, R: PageReader>(
-        &self,
-        alloc: Global,
-        terms: &Tokens,
-        mode: Mode,
-        k: u32,
-        scores: &S,
-        reader: &mut R,
-    ) -> Result<Answer, ScanFault>
-        requires some_terms { 0 < length terms.now }
-        requires some { 0 < k }
-        requires few { k ≤ 1000 }
-        requires ready { R.ready reader.old }
-        requires bounded { AreWithinBounds self.now (S.score_of scores.now) }
-        ensures answer { IfOk result (λ answer. ForSome (R.told reader.old) (λ bytes.
-            AnswersByHeads self.now terms.now mode k (S.score_of scores.now) bytes answer.hits answer.groups)) }
-        ensures asks { AsksFor (R.told reader.old) R.gives R.fails self.now terms.now mode k (S.score_of scores.now)
-            reader.old reader.new result }
-        ensures reader { KeepsReader R.told R.ready R.faults reader.old reader.new result }
-    {
-        match mode {
-            Mode::All => self.search_all(alloc, terms, k, scores, reader),
-            Mode::Any => self.search_any(alloc, terms, k, scores, reader),
-        }
     }
 
     /// Finds the best `k` documents that have all, or any, of the terms, in as few groups of the listing as suffice. It answers by the
@@ -173,10 +148,14 @@ impl Index {
             AnswersBy self.now terms.now mode k (S.score_of scores.now) bytes answer.hits answer.groups)) }
         ensures best { IfOk result (λ answer. ForSome (R.told reader.old) (λ bytes.
             FindsBest self.now terms.now mode k (S.score_of scores.now) bytes answer.hits)) }
+        ensures short { IfOk result (λ answer. length answer.hits ≤ k) }
         ensures asks { AsksFor (R.told reader.old) R.gives R.fails self.now terms.now mode k (S.score_of scores.now)
             reader.old reader.new result }
         ensures reader { KeepsReader R.told R.ready R.faults reader.old reader.new result }
     {
-        self.search_lists(alloc, terms, mode, k, scores, reader)
+        match mode {
+            Mode::All => self.search_all(alloc, terms, k, scores, reader),
+            Mode::Any => self.search_any(alloc, terms, k, scores, reader),
+        }
     }
 }

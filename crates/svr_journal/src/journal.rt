@@ -7,7 +7,7 @@ ghost use Rattle.svr_journal.specs.Causes.{OpenCauses, ReadsAlone};
 ghost use Rattle.svr_journal.specs.File.{StandsFor, StandsForSome, end_of};
 ghost use Rattle.svr_journal.specs.Gates.{FitsBehind, NextAnswers, found_of, first_gate, gate_of};
 ghost use Rattle.svr_journal.specs.Opening.{OpenAnswers, opened_bytes};
-ghost use Rattle.svr_journal.specs.Keeping.{IsSafe, IsStored};
+ghost use Rattle.svr_journal.specs.Keeping.{IsSafe, IsStored, SameBelow};
 ghost use Rattle.svr_journal.specs.Staging.{IsStaged};
 
 use crate::ahead::ReadAhead;
@@ -60,6 +60,8 @@ impl Journal {
         ensures end { OnOk result (self.new.end ≡ self.old.end + 5 + length frame.now) }
         ensures err { OnErr result (self.new ≡ self.old) }
         ensures size { OnOk result (self.new.end < (D.view disk.new).size) }
+        // What stands in front of the closed gate stays.
+        ensures below { OnOk result (SameBelow self.old.end (D.view disk.old) (D.view disk.new)) }
 
         ensures stored { (bodies : List (List ℕ)) → IsStored (D.view disk.old) self.old.end bodies
             → OnOk result (IsStored (D.view disk.new) self.new.end (bodies ++ frame.now ∷ [])) }
@@ -98,6 +100,7 @@ fn stage<D: Disk>(disk: &mut D, end: u64, frame: &Frame) -> Result<(), Failed>
     ensures staged { (bodies : List (List ℕ)) → IsStored (D.view disk.old) end bodies
         → OnOk result (IsStaged (D.view disk.new) end bodies frame.now) }
     ensures size { OnOk result (end + 6 + length frame.now ≤ (D.view disk.new).size) }
+    ensures below { OnOk result (SameBelow end (D.view disk.old) (D.view disk.new)) }
     ensures cause { WriteCause (D.view disk.old) (D.view disk.new) result }
 {
     write_synced(disk, end + 1, frame.bytes())
@@ -114,6 +117,7 @@ fn open_gate<D: Disk>(disk: &mut D, end: u64, count: u64) -> Result<(), Failed>
     ensures safe { (bodies : List (List ℕ)) (body : List ℕ) → IsStaged (D.view disk.old) end bodies body
         → OnOk result (IsSafe (D.view disk.new) (bodies ++ body ∷ [])) }
     ensures size { OnOk result (end + 6 + count ≤ (D.view disk.new).size) }
+    ensures below { OnOk result (SameBelow end (D.view disk.old) (D.view disk.new)) }
     ensures cause { WriteCause (D.view disk.old) (D.view disk.new) result }
 {
     write_synced(disk, end, &[1])

@@ -9,7 +9,7 @@ use Rattle.svr_listing.specs.declared.document.Document.{Document}
 use Rattle.svr_listing.specs.Merges.{Merge, begin, is_same, new_key, touched}
 use Rattle.svr_listing.specs.Methods.{Rules}
 use Rattle.svr_listing.proofs.Merging.{new_key-begin, new_key-touched}
-use Rattle.svr_merge.specs.Runs.{Run, StandsForMerge, pages_under}
+use Rattle.svr_merge.specs.Runs.{HaveDocuments, Run, StandsForMerge, pages_under}
 
 -- exactly those documents have no new key any more whose score, text or existence is another
 abbrev pub AreTouched : List Document → List Document → List (ℕ × ℕ) → List (ℕ × ℕ) → Type 0
@@ -45,10 +45,6 @@ touches-more old before after id ids touches sets k =
     by : (b c : Bool) → cond b None (cond c None (value_at old k)) ≡ cond (b || c) None (value_at old k)
     by true c = refl
     by false c = refl
-
--- no id without a document has a new key
-abbrev pub HaveDocuments : List Document → Merge → Type 0
-HaveDocuments documents m = (id : ℕ) → document_at documents id ≡ None → new_key m id ≡ None
 
 pub documents-begin : (rules : Rules) (ds : List Document) → HaveDocuments ds (begin rules ds)
 documents-begin rules ds id none = new_key-begin rules ds id ∙ ap (option_map (λ (d : Document). rules.key d.score)) none

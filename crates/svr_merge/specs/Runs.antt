@@ -4,7 +4,8 @@ use Rattle.std.specs.Str.{bytes_eq}
 use Rattle.svr_chunks.specs.declared.chosen.Chosen.{Chosen}
 use Rattle.svr_chunks.specs.Chosen.{chosen_rules}
 use Rattle.svr_idmap.specs.Ids.{value_at}
-use Rattle.svr_listing.specs.Listing.{pages_of}
+use Rattle.svr_listing.specs.declared.document.Document.{Document}
+use Rattle.svr_listing.specs.Listing.{document_at, pages_of}
 use Rattle.svr_listing.specs.Merges.{Merge, new_key}
 use Rattle.svr_long.specs.Lists.{pages_at}
 use Rattle.svr_postpage.specs.declared.page_ref.PageRef.{PageRef}
@@ -35,3 +36,7 @@ pub record StandsForMerge (run : Run) (m : Merge) : Type 0 where
   pub keys : (id : ℕ) → value_at run.keys id ≡ new_key m id
   pub last : run.last ≡ m.last
   pub pages : (term : List ℕ) → pages_under run.lists term ≡ map (λ page. page.head) (pages_of m.lists term)
+
+-- no id without a document has a new key
+abbrev pub HaveDocuments : List Document → Merge → Type 0
+HaveDocuments documents m = (id : ℕ) → document_at documents id ≡ None → new_key m id ≡ None

@@ -65,16 +65,16 @@ module _ {T : Type 0} (want : PageRef) (old new : DiskView) (pages kept : Cached
   reads-stays (Err fault.Read) reads = reads.0.stays
   reads-stays (Err (fault.Damaged at why)) reads = reads.0.stays
 
-  reads-kept : (reach : ℕ) (result : Result T PageFault) → ReadsPage want old new pages kept into result → IsReady reach old pages
-      → IsReady reach old kept
-  reads-kept reach (Ok x) reads ready = ready-keeps reach old pages kept want.at into ready reads.1 reads.3
-  reads-kept reach (Err fault.Read) reads ready = subst (IsReady reach old) (sym reads.1) ready
-  reads-kept reach (Err (fault.Damaged at why)) reads ready = subst (IsReady reach old) (sym reads.3) ready
+  reads-kept : (reach : ℕ) (result : Result T PageFault) → want.at + 4096 ≤ reach → ReadsPage want old new pages kept into result
+      → IsReady reach old pages → IsReady reach old kept
+  reads-kept reach (Ok x) ends reads ready = ready-keeps reach old pages kept want.at into ready ends reads.1 reads.3
+  reads-kept reach (Err fault.Read) ends reads ready = subst (IsReady reach old) (sym reads.1) ready
+  reads-kept reach (Err (fault.Damaged at why)) ends reads ready = subst (IsReady reach old) (sym reads.3) ready
 
-  pub reads-ready : (reach : ℕ) (result : Result T PageFault) → ReadsPage want old new pages kept into result → IsReady reach old pages
-      → IsReady reach new kept
-  reads-ready reach result reads ready =
-      ready-stays reach old new kept (reads-kept reach result reads ready) (reads-stays result reads)
+  pub reads-ready : (reach : ℕ) (result : Result T PageFault) → want.at + 4096 ≤ reach → ReadsPage want old new pages kept into result
+      → IsReady reach old pages → IsReady reach new kept
+  reads-ready reach result ends reads ready =
+      ready-stays reach old new kept (reads-kept reach result ends reads ready) (reads-stays result reads)
 
   pub reads-bytes : (P : Type 0) (result : Result T PageFault) → ReadsPage want old new pages kept into result
       → (AreRead want.at old into → P) → OnOk result P

@@ -1,5 +1,7 @@
 -- That what is cached stays that of the disk, and what an answer says.
-use Rattle.std.proofs.Common.{◌≡◌, ℕ, ◌≤◌, ◌-◌, nat_eq, List, take, Option, None, Some, Result, Ok, Err, OnOk, IfErr, refl, sym, ap, subst, ◌∙◌, inl, inr, eqb-true}
+use Rattle.std.proofs.Common.{◌≡◌, ℕ, ◌≤◌, ◌+◌, ◌-◌, nat_eq, List, take, Contains, Option, None, Some, Result, Ok, Err, OnOk, IfErr, refl, sym, ap, subst, ◌∙◌, arith, inl, inr, eqb-true}
+use Rattle.std.proofs.lemmas.List.{length-take}
+use Rattle.lru.specs.LruCache.{promoted}
 use Rattle.lru.proofs.CallerLemmas.{Contains-lookup, Contains-promoted, Contains-take}
 use Rattle.lru.proofs.Splits.{Contains-cons}
 use Rattle.svr_edge.specs.Disk.{DiskView, Stays}
@@ -9,7 +11,8 @@ use Rattle.svr_postpage.specs.declared.page_ref.PageFault.TheVariants as fault
 use Rattle.svr_postpage.specs.declared.page_ref.PageRef.{PageRef}
 use Rattle.svr_postpage.specs.Pages.{bytes_at}
 use Rattle.svr_pages.specs.Asked.{AreRead, IsReady}
-use Rattle.svr_pages.specs.Cached.{AreOf, CachedPages, MayKeep, cached_at, used, with_page}
+use Rattle.svr_pages.specs.Cached.{CachedPages, MayKeep, cached_at, used, with_page}
+use Rattle.svr_pages.proofs.Using.{length-promoted}
 use Rattle.svr_pages.specs.Layout.{Says}
 use Rattle.svr_pages.specs.Told.{bytes_at-is}
 
@@ -40,20 +43,24 @@ says_fault want (Some why) (Err e) P says each =
 
 -- what is cached stays that of the disk
 pub ready-used : (reach : ℕ) (d : DiskView) (c : CachedPages) (at : ℕ) → IsReady reach d c → IsReady reach d (used at c)
-ready-used reach d c at ready = record {
-  within = ready.within;
-  cached = λ content told k bytes in_it. ready.cached content told k bytes (Contains-promoted (nat_eq at) c.pages (k, bytes) in_it);
-}
+ready-used reach d c at ready =
+    let was : (e : ℕ × List ℕ) → Contains (promoted (nat_eq at) c.pages) e → Contains c.pages e =
+    Contains-promoted (nat_eq at) c.pages in
+    record {
+      within = ready.within;
+      cached = λ content told k bytes in_it. ready.cached content told k bytes (was (k, bytes) in_it);
+      inside = λ k bytes in_it. ready.inside k bytes (was (k, bytes) in_it);
+      room = subst (λ n. n ≤ c.capacity) (sym (length-promoted (nat_eq at) c.pages)) ready.room;
+    }
 
-with_page-of : (content : List ℕ) (c : CachedPages) (at : ℕ) (page : List ℕ) → AreOf content c → page ≡ bytes_at content at
-    → AreOf content (with_page at page c)
-with_page-of content c at page are is = λ k bytes in_it.
+-- a cached page came in front, or was there
+in_with_page : (P : ℕ → List ℕ → Type 0) (at : ℕ) (page : List ℕ) (c : CachedPages) → P at page
+    → ((k : ℕ) (bytes : List ℕ) → Contains c.pages (k, bytes) → P k bytes)
+    → (k : ℕ) (bytes : List ℕ) → Contains (with_page at page c).pages (k, bytes) → P k bytes
+in_with_page P at page c here each k bytes in_it =
     elim (Contains-cons (at, page) (take (c.capacity - 1) c.pages) (k, bytes) in_it) [
-      | inl same ↦
-          let key : at ≡ k = ap (λ (e : ℕ × List ℕ). e.0) same in
-          let value : page ≡ bytes = ap (λ (e : ℕ × List ℕ). e.1) same in
-          sym value ∙ is ∙ ap (bytes_at content) key
-      | inr there ↦ are k bytes (Contains-take (c.capacity - 1) c.pages (k, bytes) there)
+      | inl same ↦ subst (λ (e : ℕ × List ℕ). P e.0 e.1) same here
+      | inr there ↦ each k bytes (Contains-take (c.capacity - 1) c.pages (k, bytes) there)
     ]
 
 -- and after a read
@@ -61,14 +68,19 @@ pub ready-stays : (reach : ℕ) (old new : DiskView) (c : CachedPages) → IsRea
 ready-stays reach old new c ready stays = record {
   within = subst (λ n. reach ≤ n) (sym stays.size) ready.within;
   cached = λ content told. ready.cached content (sym stays.content ∙ told);
+  inside = ready.inside;
+  room = ready.room;
 }
 
-pub ready-keeps : (reach : ℕ) (d : DiskView) (c kept : CachedPages) (at : ℕ) (bytes : List ℕ) → IsReady reach d c → AreRead at d bytes
-    → MayKeep at bytes c kept → IsReady reach d kept
-ready-keeps reach d c kept at bytes ready read (inl same) = subst (IsReady reach d) (sym same) ready
-ready-keeps reach d c kept at bytes ready read (inr (room, is)) = record {
-  within = ready.within;
-  cached = λ content told.
-      subst (AreOf content) (sym is) (with_page-of content c at bytes (ready.cached content told)
-      (read content told ∙ sym (bytes_at-is at content)));
-}
+pub ready-keeps : (reach : ℕ) (d : DiskView) (c kept : CachedPages) (at : ℕ) (bytes : List ℕ) → IsReady reach d c → at + 4096 ≤ reach
+    → AreRead at d bytes → MayKeep at bytes c kept → IsReady reach d kept
+ready-keeps reach d c kept at bytes ready ends read (inl same) = subst (IsReady reach d) (sym same) ready
+ready-keeps reach d c kept at bytes ready ends read (inr (room, is)) =
+    subst (IsReady reach d) (sym is) record {
+      within = ready.within;
+      cached = λ content told.
+          in_with_page (λ k page. page ≡ bytes_at content k) at bytes c (read content told ∙ sym (bytes_at-is at content))
+          (ready.cached content told);
+      inside = in_with_page (λ k page. k + 4096 ≤ reach) at bytes c ends ready.inside;
+      room = omega (arith, length-take (c.capacity - 1) c.pages, ready.room);
+    }

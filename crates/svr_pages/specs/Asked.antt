@@ -1,5 +1,6 @@
 -- What asking for a page does.
 use Rattle.std.specs.Prelude.{◌≡◌, ◌⊎◌, ◌≤◌, ◌<◌, ◌+◌, ℕ, List, take, drop, None, Some}
+use Rattle.std.specs.Option.{option_map}
 use Rattle.svr_edge.specs.Causes.{Rose}
 use Rattle.svr_edge.specs.Disk.{DiskView, Reads, Stays, traced}
 use Rattle.svr_postpage.specs.declared.page_ref.Damage.{Damage}
@@ -8,12 +9,19 @@ use Rattle.svr_postpage.specs.declared.page_ref.PageFault.{PageFault}
 use Rattle.svr_postpage.specs.declared.page_ref.PageFault.TheVariants as fault
 use Rattle.svr_postpage.specs.declared.page_ref.PageRef.{PageRef}
 use Rattle.svr_postpage.specs.Wanted.{damage_in}
-use Rattle.svr_pages.specs.Cached.{AreOf, CachedPages, MayKeep, cached_at, used}
+use Rattle.svr_pages.specs.Cached.{AreOf, CachedPages, EndWithin, HasRoom, MayKeep, cached_at, used}
 
--- the disk reaches as far as is read, and where it tells its bytes, each cached page has those at its address
+-- the disk reaches as far as is read, each cached page ends within that, and where the disk tells its bytes, has those at its address;
+-- and there are no more of them than there may be
 pub record IsReady (reach : ℕ) (d : DiskView) (c : CachedPages) : Type 0 where
   pub within : reach ≤ d.size
   pub cached : (bytes : List ℕ) → Reads d bytes → AreOf bytes c
+  pub inside : EndWithin reach c
+  pub room : HasRoom c
+
+-- what is told below that place is the same
+abbrev pub SameBelow : ℕ → DiskView → DiskView → Type 0
+SameBelow reach old new = option_map (take reach) new.content ≡ option_map (take reach) old.content
 
 -- bytes are the 4,096 that the disk tells from an address on, where it tells them
 abbrev pub AreRead : ℕ → DiskView → List ℕ → Type 0

@@ -1,5 +1,5 @@
 -- Cached pages.
-use Rattle.std.specs.Prelude.{◌≡◌, ◌⊎◌, ◌<◌, ◌-◌, ℕ, List, ◌∷◌, take, nat_eq, Option, Contains}
+use Rattle.std.specs.Prelude.{◌≡◌, ◌⊎◌, ◌<◌, ◌≤◌, ◌+◌, ◌-◌, ℕ, List, ◌∷◌, length, take, nat_eq, Option, Contains}
 use Rattle.std.specs.Map.{lookup}
 use Rattle.lru.specs.LruCache.{promoted}
 use Rattle.svr_postpage.specs.Pages.{bytes_at}
@@ -28,3 +28,11 @@ MayKeep at bytes old new = (new ≡ old) ⊎ ((0 < old.capacity) × (new ≡ wit
 -- each cached page has the bytes that stand at its address
 abbrev pub AreOf : List ℕ → CachedPages → Type 0
 AreOf content c = (at : ℕ) (bytes : List ℕ) → Contains c.pages (at, bytes) → bytes ≡ bytes_at content at
+
+-- each cached page ends within reach
+abbrev pub EndWithin : ℕ → CachedPages → Type 0
+EndWithin reach c = (at : ℕ) (bytes : List ℕ) → Contains c.pages (at, bytes) → at + 4096 ≤ reach
+
+-- there are no more pages than there may be
+abbrev pub HasRoom : CachedPages → Type 0
+HasRoom c = length c.pages ≤ c.capacity

@@ -1,4 +1,5 @@
 pub mod Asked
 pub mod Cached
 pub mod Layout
+pub mod Stretch
 pub mod Told

@@ -15,7 +15,7 @@ use Rattle.svr_pages.specs.Asked.{AreRead, Fails, FromCache, FromDisk, Gives}
 use Rattle.svr_pages.specs.Cached.{CachedPages}
 
 -- a page within reach is the same of what is told
-bytes_at-take : (reach at : ℕ) (content : List ℕ) → at + 4096 ≤ reach → bytes_at (take reach content) at ≡ bytes_at content at
+pub bytes_at-take : (reach at : ℕ) (content : List ℕ) → at + 4096 ≤ reach → bytes_at (take reach content) at ≡ bytes_at content at
 bytes_at-take reach at content within =
     between_is (take reach content) at (at + 4096)
     ∙ ap (drop at) (take-take (at + 4096) reach content within)

@@ -13,5 +13,6 @@ pub use buffer::ReplyBuf;
 pub use print::print_reply;
 pub use read::read_request;
 pub use refusal::Refusal;
-pub use reply::{Answer, Fault, Reply};
+pub use reply::{Fault, Reply};
 pub use request::{Asked, HITS_BY_DEFAULT, Request, SchemaValue};
+pub use svr_topk::Answer;

@@ -1,15 +1,5 @@
 use crate::refusal::Refusal;
-use svr_edge::Items;
-use svr_num::Hit;
-
-/// The answer to a search.
-#[derive(Drop)]
-pub struct Answer {
-    /// The hits, best first.
-    pub hits: Items<Hit>,
-    /// How many groups of the listing were visited.
-    pub groups: u64,
-}
+use svr_topk::Answer;
 
 /// What went wrong with the device, or after a change was stored.
 #[derive(Clone, Copy, Debug, PartialEq, Eq)]

@@ -126,6 +126,7 @@ module _ (e : Ending) (start mid : Streams) (old new : DiskView) (taken sent : O
       statuses = serving_among e s.ran.serving;
       found = s.found;
       run = s.ran.run;
+      reads = s.reads;
       answered = s.ran.answered;
       lines = lines_on;
       part = λ h. part_on (ended_as e 4 h (λ is. cc) (λ is. cc));

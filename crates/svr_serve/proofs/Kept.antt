@@ -4,11 +4,13 @@ use Rattle.std.proofs.Common.{refl, sym, ap, ◌∙◌, subst, arith, append_ass
 use Rattle.std.proofs.lemmas.Bool.{false≢true}
 use Rattle.std.proofs.lemmas.List.{take_all}
 use Rattle.svr_core.specs.Replay.{replayed}
-use Rattle.svr_core.specs.Run.{IsRun, Turn, closes, is_in_doubt, records_of, state_in_end}
+use Rattle.svr_core.specs.Run.{IsRun, Turn, closes, is_in_doubt, reads_of, records_of, state_in_end}
 use Rattle.svr_core.specs.State.{Served, State}
 use Rattle.svr_edge.specs.Disk.{DiskView, IsDisk, IsImage, Leaves}
 use Rattle.svr_edge.proofs.DiskLemmas.{Leaves-more, Leaves-refl, Leaves-trans, images_after}
 use Rattle.svr_journal.specs.File.{StandsFor, StandsForSome}
+use Rattle.svr_pages.specs.Stretch.{with_reads}
+use Rattle.svr_pages.proofs.Stretching.{with_reads-append, with_reads-none}
 use Rattle.svr_request.specs.declared.reply.Reply.{Reply}
 use Rattle.svr_request.specs.Requests.{Submitted}
 use Rattle.svr_store.specs.Store.{Keeps, Serves, StoreValue}
@@ -16,12 +18,13 @@ use Rattle.svr_store.specs.Submitting.{Submits}
 use Rattle.svr_serve.specs.Program.{GoesOn, doubtful, kept}
 use Rattle.svr_serve.specs.Ran.{Stores}
 use Rattle.svr_serve.specs.Turning.{IsIdle}
-use Rattle.svr_serve.proofs.Runs.{GoesOn-last, GoesOn-more, IsRun-more, IsRun-none, bodies_in_end, doubtful-more, doubts_none, going_is_sure}
-use Rattle.svr_serve.proofs.Runs.{kept-more, kept_all, records_of-more, replayed-append, replayed-first, replayed-none, state_in_end-more, take-more}
+use Rattle.svr_serve.proofs.Runs.{GoesOn-last, GoesOn-more, IsRun-more, IsRun-none, IsTurn-by, bodies_in_end, doubtful-more, doubts_none}
+use Rattle.svr_serve.proofs.Runs.{going_is_sure, kept-more, kept_all, reads_of-more, records_of-more, replayed-append, replayed-first, replayed-none, state_in_end-more, take-more}
 
 -- the turns so far, none of which closed the store
 pub record Kept (opening : State) (turns : List Turn) (start now : DiskView) (store : StoreValue) : Type 0 where
-  pub run : IsRun opening turns
+  pub run : IsRun (Keeps start opening.bodies) opening turns
+  pub trace : now.trace ≡ with_reads start.trace (reads_of turns)
   pub going : GoesOn turns
   pub serves : Serves store (state_in_end opening turns)
   pub any_moment : Keeps start opening.bodies → Leaves start now (StandsForSome opening.bodies (records_of turns))
@@ -30,7 +33,8 @@ pub record Kept (opening : State) (turns : List Turn) (start now : DiskView) (st
 
 pub Kept-start : (opening : State) (start : DiskView) (store : StoreValue) → Serves store opening → Kept opening [] start start store
 Kept-start opening start store serves = record {
-  run = IsRun-none opening;
+  run = IsRun-none (Keeps start opening.bodies) opening;
+  trace = sym (with_reads-none start.trace);
   going = tt;
   serves = serves;
   any_moment = λ keeps. Leaves-refl start (StandsForSome opening.bodies []);
@@ -43,6 +47,7 @@ pub Kept-idle : (opening : State) (turns : List Turn) (start old new : DiskView)
     → IsIdle old new → then ≡ store → Kept opening turns start new then
 Kept-idle opening turns start old new store then k idle same = record {
   run = k.run;
+  trace = idle.trace ∙ k.trace;
   going = k.going;
   serves = subst (λ (v : StoreValue). Serves v (state_in_end opening turns)) (sym same) k.serves;
   any_moment = λ keeps. Leaves-more start old new (StandsForSome opening.bodies (records_of turns)) (k.any_moment keeps) idle.images;
@@ -95,14 +100,20 @@ module _ (opening : State) (turns : List Turn) (start old new : DiskView) (store
   abbrev all : List Turn
   all = turns ++ one.turn ∷ []
 
-  pub run_more : IsRun opening all
-  run_more = IsRun-more opening turns one.turn k.run k.going one.is
+  trace_more : new.trace ≡ with_reads start.trace (reads_of all)
+  trace_more = one.trace ∙ ap (λ t. with_reads t one.turn.reads) k.trace
+      ∙ with_reads-append start.trace (reads_of turns) one.turn.reads
+      ∙ ap (λ (l : List ℕ). with_reads start.trace l) (sym (reads_of-more turns one.turn))
 
   before : (state_in_end opening turns).bodies ≡ opening.bodies ++ records_of turns
   before = bodies_in_end opening turns
 
   kept_before : Keeps start opening.bodies → Keeps old (state_in_end opening turns).bodies
   kept_before keeps = subst (λ (bs : List (List ℕ)). Keeps old bs) (sym before) (k.keeps keeps)
+
+  pub run_more : IsRun (Keeps start opening.bodies) opening all
+  run_more = IsRun-more (Keeps start opening.bodies) opening turns one.turn k.run k.going
+      (IsTurn-by (Keeps old (state_in_end opening turns).bodies) (Keeps start opening.bodies) kept_before (state_in_end opening turns) one.turn one.is)
 
   moment_more : Keeps start opening.bodies → Leaves start new (StandsForSome opening.bodies (records_of all))
   moment_more keeps =
@@ -145,6 +156,7 @@ module _ (opening : State) (turns : List Turn) (start old new : DiskView) (store
   pub Kept-more : closes reply ≡ false → Kept opening all start new then
   Kept-more going = record {
     run = run_more;
+    trace = trace_more;
     going = GoesOn-more turns one.turn k.going (ap closes one.told ∙ going);
     serves = subst (λ (s : State). Serves then s) (sym (state_in_end-more opening turns one.turn)) (one.serves going);
     any_moment = moment_more;
@@ -215,6 +227,7 @@ module _ (opening : State) (turns : List Turn) (start old new : DiskView) (store
 
   pub Stores-closed : IsDisk new → closes reply ≡ true → Stores opening all start new
   Stores-closed laws closed = record {
+    trace = trace_more;
     any_moment = moment_more;
     in_end = λ keeps image left. by_doubt (is_in_doubt one.turn.reply) (IsLeft image (flat_map kept all) (flat_map doubtful all))
         (left_sure keeps image left) (left_unsure laws keeps image left);
@@ -226,6 +239,7 @@ module _ (opening : State) (turns : List Turn) (start old new : DiskView) (store
 pub Stores-going : (opening : State) (turns : List Turn) (start now : DiskView) (store : StoreValue) → Kept opening turns start now store
     → Stores opening turns start now
 Stores-going opening turns start now store k = record {
+  trace = k.trace;
   any_moment = k.any_moment;
   in_end = λ keeps image left.
       subst (λ (bs : List (List ℕ)). StandsForSome (opening.bodies ++ bs) (flat_map doubtful turns) image) (sym (kept_all turns k.going))

@@ -12,12 +12,12 @@ use Rattle.svr_journal.specs.Opening.{AnyRose, opened_bytes}
 use Rattle.svr_journal.specs.declared.faults.JournalError.{JournalError}
 use Rattle.svr_journal.specs.declared.faults.JournalError.TheVariants.{Device, NotAJournal, Memory}
 use Rattle.svr_serve.specs.Layout.{ending_of_error}
-use Rattle.svr_store.specs.Opening.{IsNoJournal, Opens}
+use Rattle.svr_store.specs.Opening.{IsNoJournal, Opens, StoodFor}
 use Rattle.svr_store.specs.Store.{Keeps, StoreValue}
 use Rattle.svr_serve.specs.declared.ending.Ending.{Ending}
 use Rattle.svr_serve.specs.Program.{IsHalfMade, Recovers, Streams, Survives}
-use Rattle.svr_serve.specs.Ran.{Carries, OpeningStops, Serving, Stores}
-use Rattle.svr_serve.proofs.Runs.{replayed-append}
+use Rattle.svr_serve.specs.Ran.{Carries, OpeningStops, Ran, Serving, Stores}
+use Rattle.svr_serve.proofs.Runs.{IsRun-by, replayed-append}
 
 -- ---- a new journal
 
@@ -72,6 +72,19 @@ module _ (opening : State) (turns : List Turn) (gives : replayed empty opening.b
         (p.0, behind first p.0 p.1);
   }
 
+-- what is said of a run where less is known
+ran_by : (kept more : Type 0) → (more → kept) → (e : Ending) (opening : State) (turns : List Turn) (before after : Streams)
+    → Ran kept e opening turns before after → Ran more e opening turns before after
+ran_by kept more knows e opening turns before after r = record {
+  serving = r.serving;
+  run = IsRun-by kept more knows opening turns r.run;
+  answered = r.answered;
+  lines = r.lines;
+  part = r.part;
+  closed = r.closed;
+  going = r.going;
+}
+
 survives_by : (opening : State) (turns : List Turn) (old mid new : DiskView) → Leaves old mid (IsHalfMade old) → Keeps mid opening.bodies
     → Stores opening turns mid new → Survives opening.bodies turns old new
 survives_by opening turns old mid new images keeps s = record {
@@ -87,7 +100,8 @@ serving_by e before after old mid new store o images c = record {
   opening = o.state;
   turns = c.0;
   found = record { stood = o.stood; found = λ bodies stood. (o.found bodies stood).0; gives = o.gives };
-  ran = c.1;
+  ran = ran_by (Keeps mid o.state.bodies) (StoodFor old o.state.bodies) (λ stood. (o.found o.state.bodies stood).1) e o.state c.0 before after c.1;
+  reads = (mid.trace, c.2.trace);
   survives = λ stood. survives_by o.state c.0 old mid new images (o.found o.state.bodies stood).1 c.2;
   recovers = recovers_by o.state c.0 o.gives mid new c.2;
 }

@@ -5,8 +5,10 @@ use Rattle.std.specs.Option.{option_and_then}
 use Rattle.std.proofs.lemmas.Bool.{false≢true}
 use Rattle.std.proofs.lemmas.List.{take_all}
 use Rattle.svr_core.specs.Replay.{after_body, replayed}
-use Rattle.svr_core.specs.Run.{IsRun, IsTurn, Turn, closes, is_in_doubt, records_of, state_in_end, state_then}
+use Rattle.svr_core.specs.Run.{Due, IsForcedBy, IsRun, IsTurn, Turn, closes, due_of, is_in_doubt, reads_of}
+use Rattle.svr_core.specs.Run.{records_of, state_in_end, state_then}
 use Rattle.svr_core.specs.State.{Served, State}
+use Rattle.svr_request.specs.declared.refusal.Refusal.TheVariants as refusal
 use Rattle.svr_request.specs.declared.reply.Fault.TheVariants as fault
 use Rattle.svr_request.specs.declared.reply.Reply.{Reply}
 use Rattle.svr_request.specs.declared.reply.Reply.TheVariants.{Accepted, Left, Found, Refused, Faulted}
@@ -24,6 +26,9 @@ lines_of-more ts t = flat_map-more line_of ts t
 
 pub records_of-more : (ts : List Turn) (t : Turn) → records_of (ts ++ t ∷ []) ≡ records_of ts ++ t.added
 records_of-more ts t = flat_map-more (λ t. t.added) ts t
+
+pub reads_of-more : (ts : List Turn) (t : Turn) → reads_of (ts ++ t ∷ []) ≡ reads_of ts ++ t.reads
+reads_of-more ts t = flat_map-more (λ t. t.reads) ts t
 
 pub kept-more : (ts : List Turn) (t : Turn) → flat_map kept (ts ++ t ∷ []) ≡ flat_map kept ts ++ kept t
 kept-more ts t = flat_map-more kept ts t
@@ -84,15 +89,38 @@ pub state_in_end-more : (s : State) (ts : List Turn) (t : Turn) → state_in_end
 state_in_end-more s [] t = refl
 state_in_end-more s (u ∷ ts) t = state_in_end-more (state_then s u) ts t
 
-pub IsRun-none : (s : State) → IsRun s []
+pub IsRun-none : (kept : Type 0) (s : State) → IsRun kept s []
 unfolding IsRun
-IsRun-none s = tt
+IsRun-none kept s = tt
 
-pub IsRun-more : (s : State) (ts : List Turn) (t : Turn) → IsRun s ts → GoesOn ts → IsTurn (state_in_end s ts) t → IsRun s (ts ++ t ∷ [])
+pub IsRun-more : (kept : Type 0) (s : State) (ts : List Turn) (t : Turn) → IsRun kept s ts → GoesOn ts → IsTurn kept (state_in_end s ts) t
+    → IsRun kept s (ts ++ t ∷ [])
 unfolding IsRun
-IsRun-more s [] t run going is = (is, λ closed. refl, tt)
-IsRun-more s (u ∷ ts) t run going is =
-    (run.0, λ closed. absurd (false≢true (sym going.0 ∙ closed)), IsRun-more (state_then s u) ts t run.2 going.1 is)
+IsRun-more kept s [] t run going is = (is, λ closed. refl, tt)
+IsRun-more kept s (u ∷ ts) t run going is =
+    (run.0, λ closed. absurd (false≢true (sym going.0 ∙ closed)), IsRun-more kept (state_then s u) ts t run.2 going.1 is)
+
+-- what is said where less is known
+module _ (kept more : Type 0) (knows : more → kept) where
+  forced_by : (reply : Reply) (due : Due) (t : Turn) → IsForcedBy kept reply due t → IsForcedBy more reply due t
+  forced_by (Refused refusal.Memory) due t h = h
+  forced_by (Faulted fault.Write) due t h = h
+  forced_by (Faulted fault.Memory) due t h = h
+  forced_by (Faulted fault.Read) due t h = h
+  forced_by (Faulted (fault.Damaged page)) due t h = ((λ known. h.0 (knows known)), h.1)
+  forced_by (Found answer) due t h = ((λ known. h.0 (knows known)), h.1)
+  forced_by _ due t h = absurd h
+
+  pub IsTurn-by : (s : State) (t : Turn) → IsTurn kept s t → IsTurn more s t
+  IsTurn-by s t is = record {
+    came = elim is.came [ inl due ↦ inl due | inr forced ↦ inr (forced_by t.reply (due_of s t.request) t forced) ];
+    reads = λ known. is.reads (knows known);
+  }
+
+  pub IsRun-by : (s : State) (ts : List Turn) → IsRun kept s ts → IsRun more s ts
+  unfolding IsRun
+  IsRun-by s [] run = tt
+  IsRun-by s (t ∷ ts) run = (IsTurn-by s t run.0, run.1, IsRun-by (state_then s t) ts run.2)
 
 -- ---- records that are read again
 

@@ -16,6 +16,7 @@ use Rattle.svr_request.specs.declared.reply.Reply.TheVariants.{Faulted}
 use Rattle.svr_request.specs.Requests.{Submitted}
 use Rattle.svr_serve.specs.declared.ending.Ending.{Ending}
 use Rattle.svr_serve.specs.declared.ending.Ending.TheVariants.{Complete, Cut, Words, Input, Output, Write, Device, Journal, Memory, Bytes}
+use Rattle.svr_store.specs.Store.{Keeps}
 use Rattle.svr_serve.specs.Input.{ends_in_block, is_cut, request_in, requests_of, whole_in, whole_requests}
 use Rattle.svr_serve.specs.Program.{Answered, EndsInBlock, GoesOn, SendsAll, Streams, Took, TookLess, lines_of, requests_in}
 use Rattle.svr_serve.specs.declared.turn.Turn.TheVariants as turn
@@ -172,7 +173,7 @@ module _ (opening : State) (start : Streams) (disk : DiskView) (old new : Standi
 
   ran_idle : (e : Ending) → EndsServing e → (e ≡ Output → ⊥) → (e ≡ Write → ⊥)
       → Answered (status_of e) start.left new.streams.left (requests_in s.turns) → new.streams.taken ≡ old.streams.taken
-      → Ran e opening s.turns start new.streams
+      → Ran (Keeps disk opening.bodies) e opening s.turns start new.streams
   ran_idle e serving sink write answered silent = record {
     serving = serving;
     run = s.kept.run;
@@ -257,7 +258,7 @@ module _ (opening : State) (start : Streams) (disk : DiskView) (old new : Standi
         (next_whole opening start.left start.taken disk old new s r.request t) t.known_end
         (asked_more opening start.left start.taken disk old new s reply r)
 
-    run_all : IsRun opening turns
+    run_all : IsRun (Keeps disk opening.bodies) opening turns
     run_all = run_more opening s.turns disk old.disk new.disk old.store new.store s.kept r.request reply
         (one opening start.left start.taken disk old new s reply r)
 

@@ -10,8 +10,9 @@ use Rattle.svr_edge.specs.Disk.{DiskView, IsImage, IsTornImage, Leaves, Reads}
 use Rattle.svr_journal.specs.File.{StandsFor, StandsForSome}
 use Rattle.svr_journal.specs.Opening.{AnyRose, opened_bytes}
 use Rattle.svr_core.specs.Replay.{replayed}
-use Rattle.svr_core.specs.Run.{IsRun, Turn, closes, is_in_doubt, records_of, state_in_end}
+use Rattle.svr_core.specs.Run.{IsRun, Turn, closes, is_in_doubt, reads_of, records_of, state_in_end}
 use Rattle.svr_core.specs.State.{Served, State, empty}
+use Rattle.svr_pages.specs.Stretch.{with_reads}
 use Rattle.svr_request.specs.declared.reply.Fault.TheVariants as fault
 use Rattle.svr_request.specs.declared.reply.Reply.{Reply}
 use Rattle.svr_request.specs.declared.reply.Reply.TheVariants.{Faulted}
@@ -138,6 +139,10 @@ pub record Recovers (opening : State) (turns : List Turn) : Type 0 where
   pub lawful : (first others : List (List ℕ)) → records_of turns ≡ first ++ others
       → (served : Served) × (replayed empty (opening.bodies ++ first) ≡ Some served)
 
+-- behind what opening read, the trace has the pages that are read for the turns, in their order
+abbrev pub ReadsBehind : List Turn → DiskView → Type 0
+ReadsBehind turns new = (opened : Option (List (ℕ × ℕ))) × (new.trace ≡ with_reads opened (reads_of turns))
+
 -- ---- how the program ends
 
 -- before a request was read: the fault line alone was written
@@ -163,7 +168,8 @@ pub record Carried (status : ℕ) (before after : Streams) (old new : DiskView) 
   pub turns : List Turn
   pub statuses : Contains (0 ∷ 1 ∷ 3 ∷ 4 ∷ 5 ∷ 7 ∷ 8 ∷ []) status
   pub found : IsFound old opening
-  pub run : IsRun opening turns
+  -- where the disk stood for its records, each reply is the one due, or has a cause outside
+  pub run : IsRun (StoodFor old opening.bodies) opening turns
   pub answered : Answered status before.left after.left (requests_in turns)
   -- the replies were written, and the fault line behind them; or a beginning of the replies where the sink failed
   pub lines : (status ≡ 4 → ⊥) → WritesBehind (lines_of turns) (fault_line status) before after
@@ -173,6 +179,7 @@ pub record Carried (status : ℕ) (before after : Streams) (old new : DiskView) 
   pub going : (status ≡ 5 → ⊥) → (status ≡ 7 → ⊥) → GoesOn turns
   pub survives : StoodFor old opening.bodies → Survives opening.bodies turns old new
   pub recovers : Recovers opening turns
+  pub reads : ReadsBehind turns new
 
 -- ---- causes
 

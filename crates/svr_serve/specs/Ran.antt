@@ -2,12 +2,13 @@
 use Rattle.std.specs.Prelude.{◌≡◌, ◌⊎◌, ◌≤◌, ◌^◌, ℕ, List, ◌++◌, flat_map, take, Some, Result, Ok, Err, ⊤}
 use Rattle.std.specs.Io.KnownBytes.{Appends}
 use Rattle.svr_core.specs.Replay.{replayed}
-use Rattle.svr_core.specs.Run.{IsRun, Turn, records_of, state_in_end}
+use Rattle.svr_core.specs.Run.{IsRun, Turn, reads_of, records_of, state_in_end}
 use Rattle.svr_core.specs.State.{Served, State}
 use Rattle.svr_edge.specs.Causes.{Rose}
 use Rattle.svr_edge.specs.Disk.{DiskView, IsImage, Leaves, Reads}
 use Rattle.svr_journal.specs.File.{StandsForSome}
 use Rattle.svr_journal.specs.Opening.{AnyRose, opened_bytes}
+use Rattle.svr_pages.specs.Stretch.{with_reads}
 use Rattle.svr_request.specs.declared.reply.Fault.TheVariants as fault
 use Rattle.svr_request.specs.declared.reply.Reply.TheVariants.{Faulted}
 use Rattle.svr_store.specs.Opening.{IsNoJournal, Opens, StoodFor}
@@ -17,7 +18,7 @@ use Rattle.svr_serve.specs.declared.ending.Ending.TheVariants as ending
 use Rattle.svr_serve.specs.declared.session.Session.{Session}
 use Rattle.svr_serve.specs.Layout.{status_of}
 use Rattle.svr_serve.specs.Program.{Answered, EndsInBlock, EndsWith, GoesOn, IsFound, IsHalfMade, Recovers, SendsAll, Streams}
-use Rattle.svr_serve.specs.Program.{Survives, Took, TookLess, WritesPart, doubtful, kept, lines_of, requests_in}
+use Rattle.svr_serve.specs.Program.{ReadsBehind, Survives, Took, TookLess, WritesPart, doubtful, kept, lines_of, requests_in}
 use Rattle.svr_serve.specs.Turning.{IsNew}
 
 -- ---- before a request was read
@@ -49,10 +50,10 @@ EndsServing ending.Device = ⊥
 EndsServing (ending.Journal at) = ⊥
 EndsServing _ = ⊤
 
--- turns were carried from an opening state on, and serving ended so behind them
-pub record Ran (e : Ending) (opening : State) (turns : List Turn) (before after : Streams) : Type 0 where
+-- turns were carried from an opening state on, over a disk that keeps its records or not, and serving ended so behind them
+pub record Ran (kept : Type 0) (e : Ending) (opening : State) (turns : List Turn) (before after : Streams) : Type 0 where
   pub serving : EndsServing e
-  pub run : IsRun opening turns
+  pub run : IsRun kept opening turns
   pub answered : Answered (status_of e) before.left after.left (requests_in turns)
   pub lines : (e ≡ ending.Output → ⊥) → Appends before.taken after.taken (lines_of turns)
   pub part : e ≡ ending.Output → WritesPart (lines_of turns) before after
@@ -61,6 +62,8 @@ pub record Ran (e : Ending) (opening : State) (turns : List Turn) (before after 
 
 -- what became of the records, where the disk kept them
 pub record Stores (opening : State) (turns : List Turn) (old new : DiskView) : Type 0 where
+  -- what was read
+  pub trace : new.trace ≡ with_reads old.trace (reads_of turns)
   pub any_moment : Keeps old opening.bodies → Leaves old new (StandsForSome opening.bodies (records_of turns))
   pub in_end : Keeps old opening.bodies → (image : List ℕ) → IsImage new image
       → StandsForSome (opening.bodies ++ flat_map kept turns) (flat_map doubtful turns) image
@@ -70,14 +73,16 @@ pub record Stores (opening : State) (turns : List Turn) (old new : DiskView) : T
       → (served : Served) × (replayed opening.served first ≡ Some served)
 
 abbrev pub Carries : Ending → State → Streams → Streams → DiskView → DiskView → Type 0
-Carries e opening before after old new = (turns : List Turn) × Ran e opening turns before after × Stores opening turns old new
+Carries e opening before after old new =
+    (turns : List Turn) × Ran (Keeps old opening.bodies) e opening turns before after × Stores opening turns old new
 
 -- the disk was opened, and turns were carried from what it stood for
 pub record Serving (e : Ending) (before after : Streams) (old new : DiskView) : Type 0 where
   pub opening : State
   pub turns : List Turn
   pub found : IsFound old opening
-  pub ran : Ran e opening turns before after
+  pub ran : Ran (StoodFor old opening.bodies) e opening turns before after
+  pub reads : ReadsBehind turns new
   pub survives : StoodFor old opening.bodies → Survives opening.bodies turns old new
   pub recovers : Recovers opening turns
 

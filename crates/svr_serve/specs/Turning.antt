@@ -1,5 +1,5 @@
 -- Words of private clauses: what a turn of the program does.
-use Rattle.std.specs.Prelude.{◌≡◌, ◌⊎◌, ◌<◌, ◌≤◌, ◌^◌, ℕ, false, List, None, Option}
+use Rattle.std.specs.Prelude.{◌≡◌, ◌⊎◌, ◌<◌, ◌≤◌, ◌^◌, ℕ, false, List, Option}
 use Rattle.std.specs.Io.KnownBytes.{Appends}
 use Rattle.svr_core.specs.Run.{closes}
 use Rattle.svr_core.specs.State.{State}
@@ -11,7 +11,7 @@ use Rattle.svr_request.specs.declared.reply.Reply.{Reply}
 use Rattle.svr_request.specs.declared.reply.Reply.TheVariants.{Faulted}
 use Rattle.svr_request.specs.Replies.{text_of}
 use Rattle.svr_request.specs.Requests.{Submitted}
-use Rattle.svr_store.specs.Store.{Keeps, Serves, StoreValue}
+use Rattle.svr_store.specs.Store.{IsOpen, Keeps, Serves, StoreValue}
 use Rattle.svr_store.specs.Submitting.{SubmitCauses, Submits}
 use Rattle.svr_serve.specs.declared.ending.Ending.{Ending}
 use Rattle.svr_serve.specs.declared.ending.Ending.TheVariants as ending
@@ -24,14 +24,14 @@ use Rattle.svr_serve.specs.Program.{IsPrefix, Streams}
 -- nothing was read, and the store answers requests
 pub record IsNew (s : Session) (disk : DiskView) : Type 0 where
   pub lines : s.lines ≡ new_reading (2 ^ 40)
-  pub unclosed : s.store.closed ≡ None
-  pub inside : s.store.end < disk.size
+  pub is_open : IsOpen s.store disk
 
 -- nothing was done to the disk
 pub record IsIdle (old new : DiskView) : Type 0 where
   pub images : LeavesNoOther old new
   pub keeps : (bodies : List (List ℕ)) → Keeps old bodies → Keeps new bodies
   pub writes : new.write_faults ≡ old.write_faults
+  pub trace : new.trace ≡ old.trace
 
 -- a request was answered so
 pub record Answers (old new : DiskView) (store after : StoreValue) (request : Submitted) (reply : Reply) : Type 0 where
@@ -48,8 +48,7 @@ pub record Replied (before after : Option (List ℕ)) (lines now : Reading) (old
 pub record IsReady (s : Session) (disk : DiskView) (reply : Reply) : Type 0 where
   pub going : closes reply ≡ false
   pub text : s.reply ≡ text_of reply
-  pub unclosed : s.store.closed ≡ None
-  pub inside : s.store.end < disk.size
+  pub is_open : IsOpen s.store disk
 
 -- the ending of a reply that closes the store
 abbrev pub IsClosedBy : Ending → Reply → Type 0
@@ -91,8 +90,7 @@ pub record ServesTurn (old new : Standing) : Type 0 where
   pub reply : Reply
   pub writes : Writes old new reply (text_of reply)
   pub sent : new.streams.sent ≡ new.streams.taken
-  pub unclosed : new.store.closed ≡ None
-  pub inside : new.store.end < new.disk.size
+  pub is_open : IsOpen new.store new.disk
 
 -- the input is at its end, and nothing was done
 pub record EndsTurn (old new : Standing) : Type 0 where

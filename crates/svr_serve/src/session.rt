@@ -13,6 +13,9 @@ use svr_store::Store;
 /// How many bytes of input are read at most.
 pub const INPUT_BYTES: u64 = 1 << 40;
 
+/// How many pages are cached at most.
+const CACHED_PAGES: u32 = 1024;
+
 /// What is served, and the room for the lines of the input and for a reply.
 #[derive(Drop)]
 pub(crate) struct Session {
@@ -31,7 +34,7 @@ impl Session {
         let lines = Lines::new(alloc, INPUT_BYTES)?;
         let reply = ReplyBuf::new(alloc)?;
         Ok(Session {
-            store: Store::open_store(alloc, disk)?,
+            store: Store::open_store(alloc, disk, CACHED_PAGES)?,
             lines,
             reply,
         })

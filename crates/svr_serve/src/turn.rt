@@ -3,6 +3,7 @@ ghost use Rattle.std.specs.Prelude.{IfOk, OnOk, IsOk, IfSome, IfErr};
 ghost use Rattle.svr_lines.specs.Reading.{taken_bytes, KnowsEnd};
 ghost use Rattle.svr_request.specs.Requests.{seen_or_refused, with_block};
 ghost use Rattle.svr_request.specs.declared.reply.Reply.{Reply};
+ghost use Rattle.svr_store.specs.Store.{IsOpen};
 ghost use Rattle.svr_serve.specs.Layout.{EndsInput, HasReadCauses, StopsBlock, StopsReading, TakesNext, TakesRequest, TakesWholeBlock};
 ghost use Rattle.svr_serve.specs.Program.{streams};
 ghost use Rattle.svr_serve.specs.Turning.{Answers, HasTurnCauses, IsClosedBy, IsIdle, IsReady, Replied, StopsUnanswered, TurnDoes, standing};
@@ -96,8 +97,7 @@ fn print_answer<D: Disk>(
     disk: &mut D,
     request: Result<Request, Refusal>,
 ) -> Result<(), Ending>
-    requires open { session.old.store.closed ≡ None }
-    requires inside { session.old.store.end < (D.view disk.old).size }
+    requires open { IsOpen session.old.store (D.view disk.old) }
     requires few { length session.old.lines.block ≤ 8388608 }
     ensures answer { (reply : Reply) × Answers (D.view disk.old) (D.view disk.new) session.old.store session.new.store
         (with_block (seen_or_refused request) session.old.lines.block) reply
@@ -121,8 +121,7 @@ fn print_next<S: Source, D: Disk>(
     disk: &mut D,
 ) -> Result<bool, Ending>
     requires known_end { KnowsEnd session.old.lines (S.left input.old) }
-    requires open { session.old.store.closed ≡ None }
-    requires inside { session.old.store.end < (D.view disk.old).size }
+    requires open { IsOpen session.old.store (D.view disk.old) }
     ensures reply { result ≡ Ok true → (reply : Reply) × Replied (S.left input.old) (S.left input.new) session.old.lines session.new.lines
         (D.view disk.old) (D.view disk.new) session.old.store session.new.store reply × IsReady session.new (D.view disk.new) reply }
     ensures end { result ≡ Ok false → EndsInput (S.left input.old) (S.left input.new) session.old.lines session.new.lines
@@ -151,8 +150,7 @@ pub(crate) fn serve_one<S: Source, O: Sink, D: Disk>(
     disk: &mut D,
 ) -> Turn
     requires known_end { KnowsEnd session.old.lines (S.left input.old) }
-    requires open { session.old.store.closed ≡ None }
-    requires inside { session.old.store.end < (D.view disk.old).size }
+    requires open { IsOpen session.old.store (D.view disk.old) }
     ensures turn { TurnDoes result
         (standing (streams (S.left input.old) (S.faults input.old) (O.taken output.old) (O.sent output.old) (O.faults output.old))
         (D.view disk.old) session.old.lines session.old.store)

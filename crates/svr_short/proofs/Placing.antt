@@ -24,13 +24,6 @@ IsTurned-same first now id key mark some others same turned = record {
       ∙ ap (λ (b : Bool). cond ((key == at) && b) (mark_turned mark (mark_in first t at id)) (mark_in first t at id)) (same t);
 }
 
-pub IsTurned-none : (first : Lists) (id key : ℕ) (mark : Mark) → IsTurned first first id key mark (λ _. false)
-IsTurned-none first id key mark = record { others = λ _ _ _ _. refl; marks = λ t at. by (key == at) (mark_in first t at id) }
-  where
-    by : (b : Bool) (o : Option Mark) → o ≡ cond (b && false) (mark_turned mark o) o
-    by true o = refl
-    by false o = refl
-
 -- ---- one term more
 
 same_way : (s t : List ℕ) → bytes_eq s t ≡ bytes_eq t s

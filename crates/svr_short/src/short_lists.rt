@@ -16,9 +16,11 @@ use std::collections::btree_map::Range;
 use std::collections::{BTreeMap, BTreeSet};
 use std::marker::Model;
 use std::ops::Bound;
+use std::sync::ledger::Ledger;
 use svr_edge::{Memory, Text};
 use svr_iter::{Mark, Marked, ShortSource};
 use svr_num::DocId;
+use svr_steps::Steps;
 use svr_tokens::Tokens;
 
 /// The marks of documents under terms.
@@ -247,7 +249,7 @@ impl ShortLists {
     }
 
     /// Takes all marks of a document away. It takes no memory.
-    pub fn drop_doc(&mut self, id: DocId)
+    pub fn drop_doc<L: Ledger>(&mut self, id: DocId, _steps: &mut Steps<L>)
         ensures others { KeepsOthers self.old self.new id }
         ensures gone { HasMarks self.new id (λ _ _. None) }
     {
@@ -283,19 +285,20 @@ impl ShortLists {
     }
 
     /// Gives a document an Add under each of the terms, in place of all marks that it had. After `Memory` the lists are spent.
-    pub fn place(
+    pub fn place<L: Ledger>(
         &mut self,
         alloc: Global,
         id: DocId,
         key: u64,
         terms: &Tokens,
+        steps: &mut Steps<L>,
     ) -> Result<(), Memory>
         requires id { id < 2 ^ 63 }
         requires key { key < 2 ^ 48 }
         ensures others { OnOk result (KeepsOthers self.old self.new id) }
         ensures marks { OnOk result (HasMarks self.new id (adds_at key (has_term terms.now))) }
     {
-        self.drop_doc(id);
+        self.drop_doc(id, steps);
         for i in 0..terms.len() {
             self.turn(alloc, terms.get(i), key, id, Mark::Add)?;
         }
@@ -304,13 +307,14 @@ impl ShortLists {
 
     /// Marks the change of a document's terms at its key: where one comes a Rem goes away, or else an Add comes; where one goes an
     /// Add goes away, or else a Rem comes. Lists of other terms are not touched. After `Memory` the lists are spent.
-    pub fn edit(
+    pub fn edit<L: Ledger>(
         &mut self,
         alloc: Global,
         id: DocId,
         key: u64,
         old: &Tokens,
         new: &Tokens,
+        _steps: &mut Steps<L>,
     ) -> Result<(), Memory>
         requires id { id < 2 ^ 63 }
         requires key { key < 2 ^ 48 }

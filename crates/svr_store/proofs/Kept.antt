@@ -1,6 +1,7 @@
--- What an append says of the records of a state.
-use Rattle.std.proofs.Common.{◌≡◌, ◌<◌, ◌≤◌, ℕ, List, [], ◌∷◌, ◌++◌, sym, subst, arith}
-use Rattle.svr_edge.specs.Disk.{DiskView, Leaves}
+-- What an append, and what reads leave of the records of a state.
+use Rattle.std.proofs.Common.{◌≡◌, ◌<◌, ◌≤◌, ℕ, List, [], ◌∷◌, ◌++◌, sym, subst, ◌∙◌, ⊎_elim, arith}
+use Rattle.svr_edge.specs.Disk.{DiskView, IsDisk, Leaves, Stays}
+use Rattle.svr_edge.proofs.DiskLemmas.{Leaves-weaker, images_after}
 use Rattle.svr_journal.specs.File.{StandsForSome, end_of}
 use Rattle.svr_journal.specs.Keeping.{IsSafe, IsStored}
 use Rattle.svr_store.specs.Store.{Keeps}
@@ -27,3 +28,21 @@ module _ (old new : DiskView) (bodies : List (List ℕ)) (start : ℕ) (at_end :
 
 pub fits_unless : (size limit : ℕ) → (limit < size → ⊥) → size ≤ limit
 fits_unless size limit not_more = omega (arith, not_more)
+
+-- ---- reads
+
+pub leaves_read : (old new : DiskView) (P : List ℕ → Type 0) → Stays old new → Leaves old new P
+leaves_read old new P stays = Leaves-weaker old new (λ _. ⊥) P stays.images (λ image none. absurd none)
+
+-- what is read is kept
+pub keeps_read : (old new : DiskView) → IsDisk new → (bodies : List (List ℕ)) → Stays old new → Keeps old bodies → Keeps new bodies
+keeps_read old new laws bodies stays kept = record {
+  stored = record {
+    bytes = kept.stored.bytes;
+    reads = stays.content ∙ kept.stored.reads;
+    stands = kept.stored.stands;
+    at_end = kept.stored.at_end;
+  };
+  safe = λ image there. ⊎_elim (λ before. kept.safe image before) (λ none. absurd none)
+      (images_after old new (λ _. ⊥) laws stays.images image there);
+}

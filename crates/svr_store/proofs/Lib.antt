@@ -1,4 +1,7 @@
-pub mod Opened
-pub mod Silent
 pub mod Appended
 pub mod Kept
+pub mod Opened
+pub mod Searching
+pub mod Silent
+pub mod Stretched
+pub mod Undamaged

@@ -1,21 +1,32 @@
 -- A store, and what it and its disk stand for.
-use Rattle.std.specs.Prelude.{◌≡◌, ℕ, List, Option}
+use Rattle.std.specs.Prelude.{◌≡◌, ◌<◌, ℕ, List, [], None, Option}
 use Rattle.svr_edge.specs.Disk.{DiskView}
 use Rattle.svr_journal.specs.File.{end_of}
 use Rattle.svr_journal.specs.Keeping.{IsSafe, IsStored}
-use Rattle.svr_core.specs.State.{Served, State}
+use Rattle.svr_pages.specs.Asked.{IsReady}
+use Rattle.svr_pages.specs.Cached.{CachedPages}
+use Rattle.svr_core.specs.Kept.{CoreValue, ServesAs}
+use Rattle.svr_core.specs.State.{State}
 use Rattle.svr_store.specs.declared.store.Closed.{Closed}
 
--- what is served, the place of the journal's closed gate, and why nothing more is answered, if so
+-- what is served, the place of the journal's closed gate, the pages that are cached, and why nothing more is answered, if so
 pub record StoreValue : Type 0 where
-  pub served : Served
+  pub core : CoreValue
   pub end : ℕ
+  pub pages : CachedPages
   pub closed : Option Closed
 
--- the store serves what the state says, and its journal ends behind the records of the state
+-- the store serves what the state says, in which no pages are posted as yet, and its journal ends behind the records of the state
 pub record Serves (store : StoreValue) (s : State) : Type 0 where
-  pub served : store.served ≡ s.served
+  pub serves : ServesAs store.core s.served
+  pub unposted : s.served.listed.listing.lists ≡ []
   pub end : store.end ≡ end_of s.bodies
+
+-- requests are answered: its disk reaches behind its journal, and what is cached stands there
+pub record IsOpen (store : StoreValue) (disk : DiskView) : Type 0 where
+  pub unclosed : store.closed ≡ None
+  pub inside : store.end < disk.size
+  pub ready : IsReady store.end disk store.pages
 
 -- the disk keeps these records: its bytes stand for them, and so does whatever a crash now leaves
 pub record Keeps (disk : DiskView) (bodies : List (List ℕ)) : Type 0 where

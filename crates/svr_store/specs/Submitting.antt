@@ -7,6 +7,7 @@ use Rattle.svr_request.specs.declared.reply.Fault.TheVariants as fault
 use Rattle.svr_request.specs.declared.reply.Reply.{Reply}
 use Rattle.svr_request.specs.declared.reply.Reply.TheVariants.{Faulted}
 use Rattle.svr_request.specs.Requests.{Submitted}
+use Rattle.svr_pages.specs.Stretch.{with_reads}
 use Rattle.svr_core.specs.Replay.{replayed}
 use Rattle.svr_core.specs.Run.{IsTurn, Turn, closes, is_in_doubt, state_then}
 use Rattle.svr_core.specs.State.{Served, State}
@@ -19,7 +20,9 @@ pub record Submits (old new : DiskView) (after : StoreValue) (s : State) (reques
   pub turn : Turn
   pub asked : turn.request ≡ request
   pub told : turn.reply ≡ reply
-  pub is : IsTurn s turn
+  pub is : IsTurn (Keeps old s.bodies) s turn
+  -- the reads of its pages stand in the trace, and no others
+  pub trace : new.trace ≡ with_reads old.trace turn.reads
   pub serves : closes reply ≡ false → Serves after (state_then s turn)
   -- its records are accepted when they are read again, and give what is served
   pub next : Served
@@ -30,12 +33,12 @@ pub record Submits (old new : DiskView) (after : StoreValue) (s : State) (reques
   -- and afterwards all of them are, unless a write failed
   pub keeps : Keeps old s.bodies → is_in_doubt reply ≡ false → Keeps new (s.bodies ++ turn.added)
 
--- a reply tells a failed write only where the count of failed writes and syncs rose; nothing was read
+-- a reply tells a failed write, or a failed read, only where the count of these rose
 pub record SubmitCauses (old new : DiskView) (reply : Reply) : Type 0 where
   pub write : reply ≡ Faulted fault.Write → Rose old.write_faults new.write_faults
   pub writes : old.write_faults ≤ new.write_faults
-  pub reads : new.read_faults ≡ old.read_faults
-  pub trace : new.trace ≡ old.trace
+  pub read : reply ≡ Faulted fault.Read → Rose old.read_faults new.read_faults
+  pub reads : old.read_faults ≤ new.read_faults
 
 -- why nothing more is answered after a reply, if so
 abbrev pub closed_by : Reply → Option Closed

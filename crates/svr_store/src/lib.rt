@@ -1,6 +1,7 @@
 //! What is served, kept on a disk: each accepted change is a record of the disk's journal before it is answered.
 #![tactic(auto)]
 
+mod finding;
 mod store;
 
 pub use store::{Closed, Store};

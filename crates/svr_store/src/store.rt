@@ -1,4 +1,5 @@
-ghost use Rattle.std.specs.Prelude.{false, ◌≡◌, ◌<◌, ◌≤◌, ◌+◌, ◌^◌, ℕ, List, length, None, Some, Err, IfOk, OnOk};
+ghost use Rattle.std.specs.Option.{IsSome};
+ghost use Rattle.std.specs.Prelude.{[], false, ◌≡◌, ◌<◌, ◌≤◌, ◌+◌, ◌^◌, ℕ, List, length, None, Some, Err, IfOk, OnOk};
 ghost use Rattle.svr_edge.specs.Disk.{IsSettled, IsTornImage, Leaves, Reads, Stays};
 ghost use Rattle.svr_journal.specs.Causes.{OpenCauses};
 ghost use Rattle.svr_journal.specs.File.{IsBody};
@@ -7,19 +8,22 @@ ghost use Rattle.svr_request.specs.Replies.{IsPrintable};
 ghost use Rattle.svr_request.specs.Requests.{Submitted, seen_or_refused, with_block};
 ghost use Rattle.svr_core.specs.Edits.{Accepts};
 ghost use Rattle.svr_core.specs.Outcomes.{outcome_of};
-ghost use Rattle.svr_core.specs.Plans.{IsEntry};
+ghost use Rattle.svr_core.specs.Kept.{catalog_of};
+ghost use Rattle.svr_core.specs.Plans.{IsEntry, IsQuery, MayAsk};
 ghost use Rattle.svr_core.specs.Run.{closes};
 ghost use Rattle.svr_core.specs.State.{State};
 ghost use Rattle.svr_store.specs.Making.{Makes};
 ghost use Rattle.svr_store.specs.Opening.{IsNoJournal, Opens};
-ghost use Rattle.svr_store.specs.Store.{Serves};
+ghost use Rattle.svr_store.specs.Store.{IsOpen, Serves};
 ghost use Rattle.svr_store.specs.Submitting.{SubmitCauses, Submits, closed_by};
 
+use crate::finding::find;
 use std::alloc::Global;
 use std::marker::Model;
-use svr_core::{Core, Edit, Entry, Plan};
-use svr_edge::{Disk, Memory};
+use svr_core::{Core, Edit, Entry, Plan, Query};
+use svr_edge::Disk;
 use svr_journal::{AppendFault, Frame, Journal, JournalError};
+use svr_pages::{Pages, Reader};
 use svr_request::{Fault, Refusal, Reply, Request};
 
 /// Why a store answers nothing more.
@@ -31,11 +35,12 @@ pub enum Closed {
     Memory,
 }
 
-/// What is served, and the place in the journal that keeps it.
+/// What is served, the place in the journal that keeps it, and pages of it that were read.
 #[derive(Drop)]
 pub struct Store {
     core: Core,
     journal: Journal,
+    pages: Pages,
     closed: Option<Closed>,
 }
 
@@ -45,18 +50,24 @@ impl Model for Store {
 
     ghost Value = { StoreValue };
 
-    ghost view = { λ s. record { served = s.core; end = s.journal.end; closed = s.closed } };
+    ghost view = { λ s. record { core = s.core; end = s.journal.end; pages = s.pages; closed = s.closed } };
 
     ghost invariant = { λ s. s.core.changes < s.journal.end };
 }
 
 impl Store {
-    /// Opens the store of a disk: reads all records of its journal. An empty disk gets a journal without a record.
-    pub fn open_store<D: Disk>(alloc: Global, disk: &mut D) -> Result<Store, JournalError>
+    /// Opens the store of a disk: reads all records of its journal. An empty disk gets a journal without a record. No page is cached
+    /// yet, and there is room for `cache` of them.
+    pub fn open_store<D: Disk>(
+        alloc: Global,
+        disk: &mut D,
+        cache: u32,
+    ) -> Result<Store, JournalError>
         ensures ok { IfOk result (Opens (D.view disk.old) (D.view disk.new)) }
         ensures fault { (at : ℕ) (bytes : List ℕ) → result ≡ Err (JournalError.NotAJournal at) → Reads (D.view disk.old) bytes
             → IsNoJournal (opened_bytes bytes) at }
-        ensures open { IfOk result (λ store. (store.closed ≡ None) × (store.end < (D.view disk.new).size)) }
+        ensures open { IfOk result (λ store. IsOpen store (D.view disk.new)) }
+        ensures empty { IfOk result (λ store. store.pages ≡ record { pages = []; capacity = cache }) }
         ensures settled { OnOk result (IsSettled (D.view disk.new)) }
         ensures stays { 0 < (D.view disk.old).size → Stays (D.view disk.old) (D.view disk.new) }
         // Of an empty disk a crash may leave anything in the first nine bytes.
@@ -65,9 +76,13 @@ impl Store {
     {
         let mut journal = Journal::open_journal(disk)?;
         let core = Core::replay(alloc, disk, &mut journal)?;
+        let Ok(pages) = Pages::new(alloc, cache) else {
+            return Err(JournalError::Memory);
+        };
         Ok(Store {
             core,
             journal,
+            pages,
             closed: None,
         })
     }
@@ -89,35 +104,53 @@ impl Store {
         request: Result<Request, Refusal>,
         block: &[u8],
     ) -> Reply
-        requires open { self.old.closed ≡ None }
-        requires inside { self.old.end < (D.view disk.old).size }
+        requires open { IsOpen self.old (D.view disk.old) }
         requires few { length block.now ≤ 8388608 }
         ensures submits { (s : State) → Serves self.old s
             → Submits (D.view disk.old) (D.view disk.new) self.new s (with_block (seen_or_refused request) block.now) result }
         ensures printable { IsPrintable result }
         ensures closed { self.new.closed ≡ closed_by result }
-        ensures inside { closes result ≡ false → self.new.end < (D.view disk.new).size }
+        ensures open { closes result ≡ false → IsOpen self.new (D.view disk.new) }
         ensures causes { SubmitCauses (D.view disk.old) (D.view disk.new) result }
     {
         match self.core.plan(alloc, request, block) {
-            Ok(Plan::Answer(answer)) => Reply::Found(answer),
+            Ok(Plan::Search(query)) => self.search(alloc, disk, &query),
             Ok(Plan::Change(entry)) => self.commit(alloc, disk, entry),
             Err(why) => Reply::Refused(why),
         }
     }
 
+    /// Answers a search. Its pages are read from the disk where they aren't cached.
+    fn search<D: Disk>(&mut self, alloc: Global, disk: &mut D, query: &Query) -> Reply
+        requires open { IsOpen self.old (D.view disk.old) }
+        requires set { IsSome (catalog_of self.old.core) }
+        requires query { MayAsk query.now }
+        ensures submits { (s : State) (request : Submitted) → Serves self.old s → IsQuery (outcome_of s.served request) query.now
+            → Submits (D.view disk.old) (D.view disk.new) self.new s request result }
+        ensures printable { IsPrintable result }
+        ensures closed { self.new.closed ≡ closed_by result }
+        ensures open { IsOpen self.new (D.view disk.new) }
+        ensures causes { SubmitCauses (D.view disk.old) (D.view disk.new) result }
+    {
+        let mut reader = Reader {
+            pages: &mut self.pages,
+            disk,
+            reach: self.journal.end(),
+        };
+        find(alloc, &self.core, query, &mut reader)
+    }
+
     /// Appends the record of a change, and makes the change.
     fn commit<D: Disk>(&mut self, alloc: Global, disk: &mut D, entry: Entry) -> Reply
-        requires open { self.old.closed ≡ None }
-        requires inside { self.old.end < (D.view disk.old).size }
-        requires accepted { Accepts self.old.served.catalog entry.edit }
+        requires open { IsOpen self.old (D.view disk.old) }
+        requires accepted { Accepts (catalog_of self.old.core) entry.edit }
         requires size { IsBody entry.body }
         ensures submits { (s : State) (request : Submitted) → Serves self.old s
             → IsEntry (outcome_of s.served request) s.served.catalog entry
             → Submits (D.view disk.old) (D.view disk.new) self.new s request result }
         ensures printable { IsPrintable result }
         ensures closed { self.new.closed ≡ closed_by result }
-        ensures inside { closes result ≡ false → self.new.end < (D.view disk.new).size }
+        ensures open { closes result ≡ false → IsOpen self.new (D.view disk.new) }
         ensures causes { SubmitCauses (D.view disk.old) (D.view disk.new) result }
     {
         let Ok(frame) = Frame::new(alloc, entry.body.as_slice()) else {
@@ -135,8 +168,8 @@ impl Store {
 
     /// Makes a change whose record is on the disk. Where memory is wanting, the store is closed.
     fn make(&mut self, alloc: Global, edit: Edit) -> Reply
-        requires accepted { Accepts self.old.served.catalog edit }
-        requires numbered { self.old.served.changes + 1 < self.old.end }
+        requires accepted { Accepts (catalog_of self.old.core) edit }
+        requires numbered { self.old.core.changes + 1 < self.old.end }
         requires few { self.old.end ≤ 2 ^ 40 }
         ensures { Makes self.old self.new edit result }
     {

@@ -1,6 +1,7 @@
 //! An index over pages as a library, beside the plain slow program.
 
 mod asked;
+mod changes;
 mod check;
 mod plain;
 mod reader;

@@ -1,4 +1,4 @@
-ghost use Rattle.std.specs.Prelude.{◌≡◌, ◌≤◌, ◌<◌, ◌^◌, [], ◌∷◌, ◌++◌, ℕ, true, All, IfOk};
+ghost use Rattle.std.specs.Prelude.{◌≡◌, ◌≤◌, ◌<◌, ◌^◌, [], ◌∷◌, ◌++◌, ℕ, length, true, All, IfOk};
 ghost use Rattle.std.specs.Option.{ForSome};
 ghost use Rattle.svr_num.specs.Hits.{best_hits, kth_score};
 ghost use Rattle.svr_listing.specs.Groups.{hits_of};
@@ -88,6 +88,7 @@ pub fn scan<M: Method, P: Postings, S: Scores, R: PageReader>(
 
     ensures found { IfOk result (λ answer. ForSome (R.told reader.old) (λ bytes.
         IsAnswer k (M.rules method.now).bound (S.score_of scores.now) (P.groups matches.old bytes) answer.hits answer.groups)) }
+    ensures short { IfOk result (λ answer. length answer.hits ≤ k) }
 
     // It asks for the pages of the groups that it visits, each once and for no others; after Ok all were given, and after a page's
     // fault those before that page.

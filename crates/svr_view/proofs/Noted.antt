@@ -81,7 +81,7 @@ row_at-without_row : (rows : List Row) (id k : ℕ) → row_at (without_row rows
 row_at-without_row [] id k = nothing (id == k) None
 row_at-without_row (r ∷ rows) id k = gone_step r rows id k (id_of r == id) refl (row_at-without_row rows id k)
 
-row_at-changed : (tables : List TableRows) (change : Change) (k : ℕ) → table_of change < length tables
+pub row_at-changed : (tables : List TableRows) (change : Change) (k : ℕ) → table_of change < length tables
     → row_at (rows_in (changed tables change) (table_of change)) k
     ≡ cond (id_changed change == k) (row_after change) (row_at (rows_in tables (table_of change)) k)
 row_at-changed tables (Insert at row) k within =

@@ -2,6 +2,7 @@ ghost use Rattle.std.specs.Prelude.{◌<◌, ◌≤◌, ◌^◌, IfOk};
 ghost use Rattle.std.specs.List.Sorted.{IsStrictlyIncreasing};
 
 use crate::over_pages::asked::{comes_after, have_ids, have_scores, is_method};
+use crate::over_pages::changes::{Change, install, make_change};
 use crate::over_pages::plain::Plain;
 use crate::over_pages::shelf::Shelf;
 use crate::over_pages::stop::Stop;
@@ -81,26 +82,6 @@ fn entries_by(alloc: Global, run: &MergeRun, documents: &[Listed]) -> Result<Lis
     Ok(keys)
 }
 
-/// Places the moved ones of these documents.
-fn place_moved(alloc: Global, index: &mut Index, documents: &[Listed]) -> Result<(), Stop> {
-    for listed in documents {
-        let terms = tokens(alloc, listed.document.text.as_str())?;
-        place_one(alloc, index, listed.document.id, &terms)?;
-    }
-    Ok(())
-}
-
-/// Places a document, if it is a moved one.
-fn place_one(alloc: Global, index: &mut Index, id: DocId, terms: &Tokens) -> Result<(), Memory> {
-    if id < 1 << 63
-        && let Some(entry) = index.entry(id)
-        && entry.moved
-    {
-        index.place_moved(alloc, id, terms)?;
-    }
-    Ok(())
-}
-
 /// Gives a term its pages, if it may be the next one.
 fn slice_term(
     alloc: Global,
@@ -132,39 +113,6 @@ impl Shop {
         })
     }
 
-    /// A document comes into the index.
-    fn come(&mut self, alloc: Global, id: DocId, score: Score, terms: &Tokens) -> Result<(), Stop> {
-        if id >= 1 << 63 || score > SCORE_MAX || self.index.entry(id).is_some() {
-            return Err(Stop::Barred);
-        }
-        self.index.doc_in(alloc, id, score, terms)?;
-        Ok(())
-    }
-
-    /// A document has other terms in the index.
-    fn edit(&mut self, alloc: Global, id: DocId, old: &Tokens, new: &Tokens) -> Result<(), Stop> {
-        if id >= 1 << 63 || self.index.entry(id).is_none() {
-            return Err(Stop::Barred);
-        }
-        self.index.content_change(alloc, id, old, new)?;
-        Ok(())
-    }
-
-    /// A document has another score in the index.
-    fn score(
-        &mut self,
-        alloc: Global,
-        id: DocId,
-        score: Score,
-        terms: &Tokens,
-    ) -> Result<(), Stop> {
-        if id >= 1 << 63 || score > SCORE_MAX || self.index.entry(id).is_none() {
-            return Err(Stop::Barred);
-        }
-        self.index.score_change(alloc, id, score, terms)?;
-        Ok(())
-    }
-
     /// The terms of a document, if it is there.
     fn terms_of(&self, alloc: Global, id: DocId) -> Result<Option<Tokens>, Memory> {
         match self.plain.document(id) {
@@ -178,10 +126,10 @@ impl Shop {
         let terms = tokens(alloc, text)?;
         match self.terms_of(alloc, id)? {
             Some(old) => {
-                self.edit(alloc, id, &old, &terms)?;
-                self.score(alloc, id, score, &terms)?;
+                make_change(alloc, &mut self.index, id, Change::Edited(&old, &terms))?;
+                make_change(alloc, &mut self.index, id, Change::Scored(score, &terms))?;
             }
-            None => self.come(alloc, id, score, &terms)?,
+            None => make_change(alloc, &mut self.index, id, Change::Comes(score, &terms))?,
         }
         if !self.plain.is_same(id, score, text) {
             self.touch(alloc, id)?;
@@ -193,7 +141,7 @@ impl Shop {
 
     /// A document goes.
     pub fn take_out(&mut self, alloc: Global, id: DocId) -> Result<(), Stop> {
-        self.index.doc_out(id);
+        make_change(alloc, &mut self.index, id, Change::Goes)?;
         self.touch(alloc, id)?;
         self.plain.take_out(alloc, id)?;
         Ok(())
@@ -343,10 +291,8 @@ impl Shop {
             return Ok(());
         };
         let keys = entries_by(alloc, &run, self.plain.documents())?;
-        let (lists, method) = run.finish();
-        self.index.install(alloc, lists, method, keys);
         self.plain.publish(alloc)?;
-        place_moved(alloc, &mut self.index, self.plain.documents())
+        install(alloc, &mut self.index, run, keys, self.plain.documents())
     }
 
     /// A whole merge.

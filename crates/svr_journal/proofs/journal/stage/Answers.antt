@@ -1,9 +1,11 @@
-use Rattle.std.proofs.Common.{◌+◌}
+use Rattle.std.proofs.Common.{◌+◌, arith}
+use Rattle.std.proofs.lemmas.Result.{on_ok_weaker}
 use Rattle.svr_edge.specs.Disk.{IsSettled, Writes}
 use Rattle.svr_journal.specs.Keeping.{framed}
 use Rattle.svr_journal.specs.Staging.{IsStaged}
 use Rattle.svr_journal.proofs.Answered.{on_both}
 use Rattle.svr_journal.proofs.Appended.{is_staged, leaves_front}
+use Rattle.svr_journal.proofs.Below.{below-written}
 use Rattle.svr_journal.proofs.journal.stage.Goals as goal
 
 pub returns-clause-kept : goal.returns-clause-kept
@@ -18,3 +20,9 @@ returns-clause-staged g c = λ bodies stored.
     (IsStaged new c.args.end bodies c.args.frame.now) c.write_synced.result
     (is_staged old new bodies c.args.frame.now c.bytes.ensures.body c.args.end stored)
     (rw c.bytes.ensures.bytes at c.write_synced.ensures.ok) c.write_synced.ensures.settled
+
+pub returns-clause-below : goal.returns-clause-below
+returns-clause-below g c =
+    on_ok_weaker c.write_synced.result
+    (λ wrote. below-written c.args.end (c.args.end + 1) _ _ _ (g.met.D.Disk.laws c.args.disk.now) (omega (arith, c.requires.inside)) (omega arith) wrote)
+    c.write_synced.ensures.ok

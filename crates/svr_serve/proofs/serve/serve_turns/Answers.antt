@@ -13,8 +13,7 @@ loop-ending-init g c = record {
   known_end = λ is. absurd (not_both c.args.session.now.lines.ended is (ap (λ (r : Reading). r.ended) c.requires.lines));
   few = omega (arith, ap taken_bytes c.requires.lines);
   limit = ap (λ (r : Reading). r.limit) c.requires.lines;
-  unclosed = c.requires.unclosed;
-  inside = c.requires.inside;
+  is_open = c.requires.is_open;
 }
 
 pub loop-ending-preserved : goal.loop-ending-preserved
@@ -27,8 +26,7 @@ loop-ending-preserved g c =
       known_end = done.writes.replied.takes.known_end;
       few = omega (arith, c.in-Served.ensures.causes.few, limit);
       limit = limit;
-      unclosed = done.unclosed;
-      inside = done.inside;
+      is_open = done.is_open;
     }
 
 pub returns-in-Ended : goal.returns-in-Ended

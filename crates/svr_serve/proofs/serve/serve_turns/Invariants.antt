@@ -1,7 +1,7 @@
-use Rattle.std.proofs.Common.{◌≡◌, ◌<◌, ◌≤◌, ◌-◌, ◌^◌, None}
+use Rattle.std.proofs.Common.{◌≡◌, ◌≤◌, ◌-◌, ◌^◌}
 use Rattle.svr_core.specs.State.{State}
 use Rattle.svr_lines.specs.Reading.{KnowsEnd, taken_bytes}
-use Rattle.svr_store.specs.Store.{Serves}
+use Rattle.svr_store.specs.Store.{IsOpen, Serves}
 use Rattle.svr_serve.specs.Program.{streams}
 use Rattle.svr_serve.specs.Turning.{standing}
 use Rattle.svr_serve.proofs.SoFar.{Between}
@@ -22,8 +22,7 @@ invariant-loop-ending g l =
       known_end : KnowsEnd l.session.lines (S.left l.input);
       few : taken_bytes l.session.lines ≤ 2 ^ 40;
       limit : l.session.lines.limit ≡ 2 ^ 40;
-      unclosed : l.session.store.closed ≡ None;
-      inside : l.session.store.end < (view l.disk).size;
+      is_open : IsOpen l.session.store (view l.disk);
     }
 
 abbrev pub decreases-loop-ending : goal.decreases-loop-ending

@@ -1,5 +1,7 @@
 use Rattle.std.proofs.Common.{◌≡◌, ◌≤◌, ◌<◌, ◌^◌, ◌++◌, [], ℕ, true, false, List, refl, sym, ap, subst, ◌∙◌, arith}
+use Rattle.svr_num.specs.declared.hit.Hit.{Hit}
 use Rattle.svr_num.specs.Hits.{best_hits, kth_score}
+use Rattle.svr_num.proofs.Placed.{best_length}
 use Rattle.svr_listing.specs.Groups.{hits_of}
 use Rattle.svr_listing.proofs.Visiting.{SoFar-start}
 use Rattle.svr_topk.specs.Scan.{goes_on}
@@ -106,3 +108,8 @@ returns-clause-asks g c =
     asked_at_end (g.R.PageReader.told c.args.reader.now) g.R.PageReader.gives g.R.PageReader.fails c.args.k
     (g.M.Method.rules c.args.method.now).bound (g.S.Scores.score_of c.args.scores.now) (g.P.Postings.groups c.args.matches.now)
     (g.P.Postings.pages c.args.matches.now) c.groups.groups _ _ _ _ c.groups.invariant.given (returns-clause-found g c)
+
+pub returns-clause-short : goal.returns-clause-short
+returns-clause-short g c =
+    best_length c.args.k c.from_vec.result
+    (subst (λ (hits : List Hit). best_hits c.args.k hits ≡ hits) (sym (c.from_vec.ensures ∙ c.into_hits.ensures)) c.groups.invariant.top)

@@ -1,14 +1,15 @@
 use Rattle.std.proofs.Common.{◌≡◌, ◌+◌, ℕ, length, Err, sym, ap, ◌∙◌, subst, arith, rules}
 use Rattle.svr_journal.specs.declared.faults.JournalError.TheVariants as error
 use Rattle.svr_core.specs.Replay.{IsAtFault, after_body}
-use Rattle.svr_core.proofs.SoFar.{IsAhead-none, IsRead-more, IsRead-none, SoFar, SoFar-more, SoFar-none, fault_at_next, fault_at_record}
+use Rattle.svr_core.specs.Steps.{TakesBody}
+use Rattle.svr_core.proofs.SoFar.{IsAhead-none, IsRead-more, IsRead-none, SoFar-more, SoFar-none, fault_at_next, fault_at_record}
 use Rattle.svr_core.proofs.served.Core.replay.Goals as goal
 
 pub loop-ahead-init : goal.loop-ahead-init
 loop-ahead-init g c =
     let disk = g.D.Disk.view c.args.disk.now in
     record {
-      so_far = subst (λ core. SoFar disk core c.args.journal.now) (sym c.empty-core.ensures) (SoFar-none disk c.args.journal.now c.requires);
+      so_far = SoFar-none disk c.empty-core.result c.args.journal.now c.empty-core.ensures c.requires;
       read = IsRead-none disk;
       ahead = IsAhead-none c.new-ahead.result disk c.new-ahead.ensures;
     }
@@ -25,7 +26,7 @@ loop-ahead-preserved g c =
     record {
       so_far = SoFar-more disk mid c.loop-ahead.core old inv.so_far inv.read c.in_ok-address.field-0 c.in-Some.address
           c.in-Some.is body c.in_ok-address.ensures.answer c.take_at.new.self c.next.new.self
-          (ap (after_body c.loop-ahead.core) (sym c.body.ensures) ∙ c.in_ok-take_at.ensures.ok)
+          (subst (TakesBody inv.so_far.served c.take_at.new.self) c.body.ensures (c.in_ok-take_at.ensures.ok inv.so_far.served inv.so_far.serves))
           (moved ∙ ap (λ (n : ℕ). record { end = n + length body; size = old.size }) place);
       read = IsRead-more disk mid (g.D.Disk.view c.next.new.disk) c.next.result inv.read c.next.ensures.reads;
       ahead = c.next.ensures.ahead;
@@ -44,9 +45,9 @@ returns-in_err-take_at-clause-fault g c = λ at bytes e reads.
     let old = c.loop-ahead.journal in
     let place : c.in-Some.address ≡ old.end + 5 = search rules in
     let failed : c.take_at.result ≡ Err (error.NotAJournal at) = search (rules, e) in
-    let told = c.take_at.ensures.fault at failed in
+    let told = c.take_at.ensures.fault inv.so_far.served at inv.so_far.serves failed in
     let at_gate : at ≡ old.end = omega (arith, told.0, place) in
     subst (IsAtFault bytes) (sym at_gate)
     (fault_at_record (g.D.Disk.view c.args.disk.now) (g.D.Disk.view c.loop-ahead.disk) c.loop-ahead.core old inv.so_far inv.read
     c.in_ok-address.field-0 c.in-Some.address c.in-Some.is c.next.new.ahead.body c.in_ok-address.ensures.answer bytes reads
-    (ap (after_body c.loop-ahead.core) (sym c.body.ensures) ∙ told.1))
+    (ap (after_body inv.so_far.served) (sym c.body.ensures) ∙ told.1))

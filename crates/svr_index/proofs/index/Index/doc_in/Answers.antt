@@ -3,8 +3,8 @@ use Rattle.svr_index.specs.Index.{Indexed}
 use Rattle.svr_index.proofs.Following.{follows-moved, rules-key}
 use Rattle.svr_index.proofs.index.Index.doc_in.Goals as goal
 
-pub returns : goal.returns
-returns c tokens l now is stood differs with =
+pub returns-clause-follows : goal.returns-clause-follows
+returns-clause-follows g c tokens l now is stood differs with =
     follows-moved tokens c.args.self.now c.move_to.new.self l now c.args.id c.key-key.result c.args.score c.args.terms.now with.it None is stood
     differs with.is with.score_is with.terms_are (sym (stood.entries c.args.id) ∙ c.requires.new)
     (rules-key c.args.self.now l c.self.inside.method c.args.score c.key-key.result stood (ap (λ (i : Indexed). i.method) c.self.view_is)

@@ -8,7 +8,7 @@ use Rattle.svr_long.specs.Heads.{are_heads}
 use Rattle.svr_postpage.specs.declared.page_ref.PageRef.{PageRef}
 use Rattle.svr_short.specs.Short.{marks_of}
 use Rattle.svr_index.specs.Index.{Indexed, StandsFor}
-use Rattle.svr_index.specs.Layout.{refs_at}
+use Rattle.svr_index.specs.Docs.{refs_at}
 use Rattle.svr_index.proofs.Telling.{tells}
 use Rattle.svr_index.proofs.index.Index.list_of.Goals as goal
 
@@ -26,4 +26,5 @@ returns c =
       pages_are = λ key.
           ap (λ (f : ℕ → List PageRef). f key) c.new.ensures.pages ∙ c.new-long.ensures.pages key
           ∙ ap (pages_of_key key) (c.pages.ensures.value ∙ ap (λ (i : Indexed). refs_at i c.args.term.now) c.self.view_is);
+      heads = subst (λ (i : Indexed). are_heads (refs_at i c.args.term.now) ≡ true) c.self.view_is ordered;
     }

@@ -93,8 +93,9 @@ returns-clause-ready g c =
     let same : c.find.new.self ≡ c.args.self.now.pages.now =
     c.find.ensures.used ∙ used-none c.args.want.now.at c.args.self.now.pages.now none in
     let d = g.D.Disk.view c.args.self.now.disk.now in
+    let yes : c.ends_within.result ≡ true = search rules in
     reads-ready c.args.want.now d (g.D.Disk.view c.read.new.disk) c.find.new.self c.read.new.pages c.read.new.into c.args.self.now.reach
-    c.read.result c.read.ensures (subst (IsReady c.args.self.now.reach d) (sym same) c.requires)
+    c.read.result (c.ends_within.ensures.yes yes) c.read.ensures (subst (IsReady c.args.self.now.reach d) (sym same) c.requires)
 
 pub returns-clause-gives : goal.returns-clause-gives
 returns-clause-gives g c =

@@ -1,7 +1,10 @@
 use Rattle.std.proofs.Common.{ℕ, List, refl, subst}
-use Rattle.svr_edge.specs.Disk.{Reads}
+use Rattle.svr_edge.specs.Disk.{IsTornImage, Reads}
+use Rattle.svr_edge.proofs.DiskLemmas.{Leaves-more}
 use Rattle.svr_journal.specs.File.{StandsFor}
 use Rattle.svr_journal.specs.Opening.{opened_bytes}
+use Rattle.svr_core.specs.State.{empty}
+use Rattle.svr_core.proofs.Unposted.{unposted-replayed}
 use Rattle.svr_store.proofs.Opened.{found_bodies, keeps, stand_for}
 use Rattle.svr_store.proofs.store.Store.open_store.Goals as goal
 
@@ -12,9 +15,9 @@ returns-clause-ok g c =
     let there = c.in_ok-core.ensures.ok in
     let end = c.replay.new.journal.end in
     record {
-      state = record { served = c.in_ok-core.core; bodies = there.bodies };
+      state = record { served = there.served; bodies = there.bodies };
       gives = there.gives;
-      serves = record { served = refl; end = there.at_end };
+      serves = record { serves = there.serves; unposted = unposted-replayed empty there.bodies there.served refl there.gives; end = there.at_end };
       stood = λ bytes reads.
           let now : Reads mid (opened_bytes bytes) = c.in_ok-journal.ensures.content bytes reads in
           stand_for (opened_bytes bytes) end (there.closed (opened_bytes bytes) now) there.bodies (c.in_ok-journal.ensures.answer bytes reads)
@@ -29,3 +32,9 @@ returns-clause-ok g c =
                 (subst (λ (bs : List (List ℕ)). StandsFor bytes bs) same stood.stands),
           );
     }
+
+pub returns-in_default-clause-images : goal.returns-in_default-clause-images
+returns-in_default-clause-images g c =
+    let old = g.D.Disk.view c.args.disk.now in
+    Leaves-more old (g.D.Disk.view c.open_journal.new.disk) (g.D.Disk.view c.replay.new.disk) (IsTornImage old 0 9)
+    c.in_ok-journal.ensures.images c.in_ok-core.ensures.reads.stays.images

@@ -1,0 +1,5 @@
+pub mod Answers
+pub mod Catalog
+pub mod Layout
+pub mod Listed
+pub mod Stands

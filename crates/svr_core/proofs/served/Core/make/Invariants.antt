@@ -1,0 +1,5 @@
+use Rattle.svr_core.proofs.served.Core.make.Given as goal
+
+-- the ledger of the blank
+abbrev pub ghosts-edited : goal.ghosts-edited
+ghosts-edited a = record { name = a.blank.name; parts = a.blank.parts }

@@ -1,0 +1,5 @@
+pub mod Layout
+pub mod Lists
+pub mod Merges
+pub mod Publish
+pub mod Slices
