@@ -1,11 +1,14 @@
-ghost use Rattle.std.specs.Prelude.{◌<◌, ◌≤◌, IfOk, length};
+ghost use Rattle.std.specs.Prelude.{◌≡◌, ◌<◌, ◌≤◌, ◌+◌, ◌^◌, IfOk, length};
 ghost use Rattle.std.specs.List.Sorted.{IsStrictlyIncreasing};
+ghost use Rattle.svr_fakes.specs.Flips.{flip_view};
+ghost use Rattle.svr_pages.specs.Asked.{IsReady};
 
 use crate::over_pages::asked::are_within;
 use crate::over_pages::reader::OwnReader;
 use crate::search::Table;
 use std::alloc::Global;
-use svr_edge::{Disk, Memory, Text};
+use std::marker::Model;
+use svr_edge::{Disk, Failed, Memory, Text};
 use svr_fakes::{FlipDisk, MemDisk};
 use svr_index::Index;
 use svr_iter::ScanFault;
@@ -16,7 +19,7 @@ use svr_tokens::Tokens;
 use svr_topk::Answer;
 
 /// A disk to which pages are appended, what it is to hold, and the pages that are cached of it. It tells contracts no bytes, so that
-/// its bytes may be changed under the cache.
+/// its bytes may be changed under the cache. Contracts see what it is to hold, and its reader may be asked for pages at any time.
 #[derive(Drop)]
 pub struct Shelf {
     reader: OwnReader<FlipDisk>,
@@ -24,6 +27,54 @@ pub struct Shelf {
     /// The byte that is given inverted.
     flipped: Option<u64>,
     is_changed: bool,
+}
+
+impl Model for Shelf {
+    ghost use Rattle.std.specs.Prelude.{ℕ, List};
+    ghost use Rattle.svr_fakes.specs.Flips.{flip_view};
+    ghost use Rattle.svr_pages.specs.Asked.{IsReady};
+
+    ghost Value = { List ℕ };
+
+    ghost view = { λ s. s.bytes.items };
+
+    ghost invariant = { λ s. IsReady s.reader.reach (flip_view s.reader.disk) s.reader.pages };
+}
+
+/// Where the disk of a reader ends.
+fn end_of(reader: &mut OwnReader<FlipDisk>) -> Result<u64, Failed>
+    requires { IsReady reader.old.reach (flip_view reader.old.disk) reader.old.pages }
+    ensures ready { IsReady reader.new.reach (flip_view reader.new.disk) reader.new.pages }
+    ensures end { IfOk result (λ end. end ≡ (flip_view reader.new.disk).size) }
+{
+    reader.disk.len()
+}
+
+/// From now on a reader reads up to where its disk ends.
+fn reach_end(reader: &mut OwnReader<FlipDisk>) -> Result<(), ScanFault>
+    requires { IsReady reader.old.reach (flip_view reader.old.disk) reader.old.pages }
+    ensures { IsReady reader.new.reach (flip_view reader.new.disk) reader.new.pages }
+{
+    match end_of(reader) {
+        Ok(end) => {
+            reader.reach = end;
+            Ok(())
+        }
+        Err(_) => Err(ScanFault::Page(PageFault::Read)),
+    }
+}
+
+/// Writes on the disk of a reader.
+fn write(reader: &mut OwnReader<FlipDisk>, at: u64, bytes: &[u8]) -> Result<(), Memory>
+    requires ready { IsReady reader.old.reach (flip_view reader.old.disk) reader.old.pages }
+    requires inside { at ≤ (flip_view reader.old.disk).size }
+    requires fits { at + length bytes.now ≤ 2 ^ 40 }
+    ensures { IsReady reader.new.reach (flip_view reader.new.disk) reader.new.pages }
+{
+    match reader.disk.write_at(at, bytes) {
+        Ok(()) => Ok(()),
+        Err(_) => Err(Memory),
+    }
 }
 
 /// The 4,096 bytes from an address on, if there are so many.
@@ -40,7 +91,9 @@ pub fn page_bytes(bytes: &[u8], at: u64) -> Option<[u8; 4096]> {
 
 impl Shelf {
     /// A disk of these bytes, with room for so many cached pages.
-    pub fn new(alloc: Global, bytes: &[u8], cache: u32) -> Result<Shelf, Memory> {
+    pub fn new(alloc: Global, bytes: &[u8], cache: u32) -> Result<Shelf, Memory>
+        ensures { IfOk result (λ shelf. shelf ≡ bytes.now) }
+    {
         let disk = FlipDisk::new(MemDisk::new(bytes.to_vec(alloc)?, Vec::new(alloc)));
         let reader = OwnReader {
             pages: Pages::new(alloc, cache)?,
@@ -56,23 +109,22 @@ impl Shelf {
     }
 
     /// What the disk is to hold.
-    pub fn bytes(&self) -> &[u8] {
+    pub fn bytes(&self) -> &[u8]
+        ensures { result.now ≡ self.now }
+    {
         self.bytes.as_slice()
     }
 
     /// Appends bytes.
     pub fn append(&mut self, bytes: &[u8]) -> Result<(), Memory> {
-        let Ok(end) = self.reader.disk.len() else {
+        let Ok(end) = end_of(&mut self.reader) else {
             return Err(Memory);
         };
         if end > 1 << 30 || bytes.len() > 1 << 30 {
             return Err(Memory);
         }
         self.bytes.extend_from_slice(bytes)?;
-        if self.reader.disk.write_at(end, bytes).is_err() {
-            return Err(Memory);
-        }
-        Ok(())
+        write(&mut self.reader, end, bytes)
     }
 
     /// What the pages are known by that were appended last, from an address on; none where some of them are no pages.
@@ -93,7 +145,7 @@ impl Shelf {
 
     /// Writes one byte, on the disk and in what it is to hold.
     pub fn change(&mut self, at: u64, byte: u8) -> Result<(), Memory> {
-        let Ok(end) = self.reader.disk.len() else {
+        let Ok(end) = end_of(&mut self.reader) else {
             return Err(Memory);
         };
         if at >= end || end > 1 << 31 || at >= self.bytes.len() as u64 {
@@ -101,10 +153,7 @@ impl Shelf {
         }
         self.bytes[at as usize] = byte;
         self.is_changed = true;
-        match self.reader.disk.write_at(at, &[byte]) {
-            Ok(()) => Ok(()),
-            Err(_) => Err(Memory),
-        }
+        write(&mut self.reader, at, &[byte])
     }
 
     /// Inverts a byte of what the disk is to hold.
@@ -140,10 +189,7 @@ impl Shelf {
     ) -> Result<Vec<DocId>, ScanFault>
         ensures { IfOk result (λ ids. IsStrictlyIncreasing ids.items) }
     {
-        let Ok(reach) = self.reader.disk.len() else {
-            return Err(ScanFault::Page(PageFault::Read));
-        };
-        self.reader.reach = reach;
+        reach_end(&mut self.reader)?;
         index.term_docs(alloc, term, &mut self.reader)
     }
 
@@ -164,10 +210,7 @@ impl Shelf {
         if !are_within(index, scores) {
             return Ok(None);
         }
-        let Ok(reach) = self.reader.disk.len() else {
-            return Err(ScanFault::Page(PageFault::Read));
-        };
-        self.reader.reach = reach;
+        reach_end(&mut self.reader)?;
         let answer = index.search(alloc, terms, mode, k, scores, &mut self.reader)?;
         Ok(Some(answer))
     }
