@@ -1,7 +1,9 @@
 pub mod ById
 pub mod Following
+pub mod Merging
 pub mod Midway
 pub mod Moves
 pub mod Rows
 pub mod Searched
+pub mod Shown
 pub mod Standing

@@ -5,6 +5,8 @@ use Rattle.svr_listing.specs.Kept.{AreDocuments}
 use Rattle.svr_listing.specs.Listing.{document_at, documents_of, score_in}
 use Rattle.svr_listing.specs.Served.{IsServed, Served, after, change}
 use Rattle.svr_lists.specs.Lists.{ComesWithText, GoesAway, IsAtScores, IsRescored, ListsValue, StandsForServed}
+use Rattle.svr_lists.specs.declared.publish.DocumentText.{DocumentText}
+use Rattle.svr_num.specs.declared.hit.Hit.{Hit}
 use Rattle.svr_rows.specs.Rows.{TableRows}
 use Rattle.svr_rows.specs.declared.change.Change.{Change}
 use Rattle.svr_rows.specs.declared.change.Change.TheVariants.{Insert, Update, Delete}
@@ -85,3 +87,9 @@ pub record IsMidway (before now : List Document) (seen : ℕ → Bool) (old new 
       ≡ (if seen id then halfway (document_at before id) (document_at now id) else document_at before id)
   pub carries : Carries before mid old new
   pub at_scores : IsAtScores (score_in mid) new
+
+-- ---- documents that are shown
+
+-- id and score of one
+abbrev pub hit_shown : DocumentText → Hit
+hit_shown d = record { id = d.id; score = d.score }

@@ -3,3 +3,4 @@ pub mod Catalog
 pub mod Layout
 pub mod Listed
 pub mod Stands
+pub mod Merging

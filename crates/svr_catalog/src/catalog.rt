@@ -1,5 +1,6 @@
 ghost use Rattle.std.specs.Prelude.{◌≡◌, [], None, IfOk};
 ghost use Rattle.svr_listing.specs.Served.{Served, nothing_listed};
+ghost use Rattle.svr_lists.specs.Lists.{last_in};
 ghost use Rattle.svr_merge.specs.Rules.{rules_for};
 ghost use Rattle.svr_rows.specs.Changes.{load_refusal, refusal_of};
 ghost use Rattle.svr_schema.specs.Lawful.{IsSchema};
@@ -45,6 +46,7 @@ impl Catalog {
         requires { IsSchema schema }
         ensures catalog { IfOk result (λ catalog. catalog.catalog ≡ new_catalog schema) }
         ensures stands { IfOk result (λ catalog. Stands catalog (nothing_listed (rules_for schema.method []))) }
+        ensures last { IfOk result (λ catalog. last_in catalog.lists ≡ None) }
     {
         let contents = Contents::new(alloc, &schema)?;
         Ok(Catalog { schema, contents })
@@ -60,6 +62,7 @@ impl Catalog {
         requires { refusal_of self.catalog.tables change ≡ None }
         ensures catalog { IfOk result (λ after. after.catalog ≡ catalog_with self.catalog change) }
         ensures stands { IfOk result (λ after. (s : Served) → Stands self s → Stands after (listed_after after.catalog s)) }
+        ensures last { IfOk result (λ after. last_in after.lists ≡ last_in self.lists) }
     {
         let Catalog {
             schema,
@@ -80,6 +83,7 @@ impl Catalog {
         requires { load_refusal self.catalog.tables table rows.items ≡ None }
         ensures catalog { IfOk result (λ after. after.catalog ≡ catalog_with_rows self.catalog table rows.items) }
         ensures stands { IfOk result (λ after. (s : Served) → Stands self s → Stands after (listed_with_rows self.catalog s table rows.items)) }
+        ensures last { IfOk result (λ after. last_in after.lists ≡ last_in self.lists) }
     {
         let Catalog {
             schema,

@@ -1,12 +1,14 @@
-ghost use Rattle.std.specs.Prelude.{◌≡◌, [], map, None, IfOk, OnOk};
+ghost use Rattle.std.specs.Prelude.{◌≡◌, [], map, None, Some, IfOk, OnOk};
 ghost use Rattle.svr_listing.specs.Served.{nothing_listed};
-ghost use Rattle.svr_lists.specs.Lists.{StandsForServed};
+ghost use Rattle.svr_lists.specs.Lists.{StandsForServed, last_in};
 ghost use Rattle.svr_merge.specs.Rules.{rules_for};
 ghost use Rattle.svr_rows.specs.Changes.{changed, inserted, load_refusal, refusal_of};
 ghost use Rattle.svr_rows.specs.Rows.{no_rows};
 ghost use Rattle.svr_schema.specs.Lawful.{IsSchema};
-ghost use Rattle.svr_catalog.specs.Layout.{Carries, CarriesRows, IsCatalog, documents_from};
+ghost use Rattle.svr_catalog.specs.Layout.{Carries, CarriesRows, IsCatalog, documents_from, value_of};
+ghost use Rattle.svr_catalog.specs.Merging.{Begins, Publishes};
 
+use crate::documents::{documents, hits};
 use crate::follow::follow;
 use std::alloc::Global;
 use std::sync::ledger::Ledger;
@@ -33,6 +35,7 @@ impl Contents {
         ensures tables { IfOk result (λ contents. contents.tables ≡ map no_rows schema.now.tables) }
         ensures kept { IfOk result (IsCatalog schema.now) }
         ensures stands { IfOk result (λ contents. StandsForServed contents.lists (nothing_listed (rules_for schema.now.method []))) }
+        ensures last { IfOk result (λ contents. last_in contents.lists ≡ None) }
     {
         Ok(Contents {
             tables: Tables::new(alloc, schema)?,
@@ -55,6 +58,7 @@ impl Contents {
         ensures kept { OnOk result (IsCatalog schema.now self.new) }
         ensures carries { OnOk result (Carries (documents_from schema.now self.old.tables) (documents_from schema.now self.new.tables)
             self.old.lists self.new.lists) }
+        ensures last { OnOk result (last_in self.new.lists ≡ last_in self.old.lists) }
     {
         let moves = self.scores.note(alloc, schema, &self.tables, &change)?;
         follow(
@@ -84,12 +88,44 @@ impl Contents {
         ensures changed { OnOk result (self.new.tables ≡ inserted self.old.tables table rows.items) }
         ensures kept { OnOk result (IsCatalog schema.now self.new) }
         ensures carries { OnOk result (CarriesRows schema.now self.old self.new table rows.items) }
+        ensures last { OnOk result (last_in self.new.lists ≡ last_in self.old.lists) }
     {
         let mut rest = rows;
         rest.reverse();
         while let Some(row) = rest.pop() {
             self.change(alloc, schema, Change::Insert { table, row }, steps)?;
         }
+        Ok(())
+    }
+
+    /// Begins a merge beside the documents, in place of one that was begun.
+    pub fn begin_merge(&mut self, alloc: Global, schema: &Schema) -> Result<(), Memory>
+        requires kept { IsCatalog schema.now self.old }
+        ensures tables { OnOk result (self.new.tables ≡ self.old.tables) }
+        ensures kept { OnOk result (IsCatalog schema.now self.new) }
+        ensures begins { OnOk result (Begins (value_of schema.now self.old) (value_of schema.now self.new)) }
+        ensures last { OnOk result (last_in self.new.lists ≡ Some None) }
+    {
+        let documents = hits(alloc, schema, &self.tables, &self.scores)?;
+        self.lists.begin(alloc, &documents, &schema.method)?;
+        Ok(())
+    }
+
+    /// Publishes the merge, if one is begun. After `Memory` the contents are spent.
+    pub fn publish<L: Ledger>(
+        &mut self,
+        alloc: Global,
+        schema: &Schema,
+        steps: &mut Steps<L>,
+    ) -> Result<(), Memory>
+        requires kept { IsCatalog schema.now self.old }
+        ensures tables { OnOk result (self.new.tables ≡ self.old.tables) }
+        ensures kept { OnOk result (IsCatalog schema.now self.new) }
+        ensures publishes { OnOk result (Publishes (value_of schema.now self.old) (value_of schema.now self.new)) }
+        ensures last { OnOk result (last_in self.new.lists ≡ None) }
+    {
+        let documents = documents(alloc, schema, &self.tables, &self.scores)?;
+        self.lists.publish(alloc, &documents, steps)?;
         Ok(())
     }
 }

@@ -2,7 +2,7 @@
 ghost use Rattle.std.specs.Prelude.{◌≡◌, ◌<◌, ◌≤◌, ◌^◌, ℕ, true, IfSome, None, OnOk, Option, option_map, slice_get};
 ghost use Rattle.std.specs.Option.{is_some};
 ghost use Rattle.svr_idmap.specs.Ids.{value_at};
-ghost use Rattle.svr_lists.specs.Lists.{FollowsDocument, IsAtScores, ListsValue, SetsScore};
+ghost use Rattle.svr_lists.specs.Lists.{FollowsDocument, IsAtScores, ListsValue, SetsScore, last_in};
 ghost use Rattle.svr_rows.specs.Changes.{changed, refusal_of};
 ghost use Rattle.svr_rows.specs.Rows.{HasId, id_of, row_at, rows_in};
 ghost use Rattle.svr_view.specs.Layout.{row_after};
@@ -22,7 +22,7 @@ use svr_steps::Steps;
 use svr_view::ScoreMove;
 
 /// The text in a cell of a row, empty where there is none.
-fn text_at(row: &Row, column: u8) -> &str
+pub(crate) fn text_at(row: &Row, column: u8) -> &str
     ensures { result.now ≡ text_in (slice_get row.now.cells column) }
 {
     match row.cells.as_slice().get(column as usize) {
@@ -32,7 +32,7 @@ fn text_at(row: &Row, column: u8) -> &str
 }
 
 /// The id of a row, which an `i64` holds.
-fn id_in(row: &Row) -> DocId
+pub(crate) fn id_in(row: &Row) -> DocId
     requires { HasId row.now }
     ensures value { result ≡ id_of row.now }
     ensures within { result < 2 ^ 63 }
@@ -105,6 +105,7 @@ fn follow_move<L: Ledger>(
         (MovesBy to.now.old to.now.new (text_or_none schema.now (option_map (λ row. row.now) row.entry)))) }
     ensures at_scores { (old new : ℕ → Option ℕ) → IsAtScores old lists.old → SetsScore old new to.now.id to.now.new
         → OnOk result (IsAtScores new lists.new) }
+    ensures last { OnOk result (last_in lists.new ≡ last_in lists.old) }
 {
     let Some(score) = to.new else {
         lists.goes(to.id, steps);
@@ -134,8 +135,9 @@ fn follow_moves<L: Ledger>(
     requires accepted { refusal_of tables.now change.now ≡ None }
     requires moves { AreMoves (score_at schema.now tables.now) (score_at schema.now (changed tables.now change.now)) moves.now }
     requires at_scores { IsAtScores (score_at schema.now tables.now) lists.old }
-    ensures { OnOk result (IsMidway (documents_from schema.now tables.now) (documents_from schema.now (changed tables.now change.now))
+    ensures midway { OnOk result (IsMidway (documents_from schema.now tables.now) (documents_from schema.now (changed tables.now change.now))
         (λ _. true) lists.old lists.new) }
+    ensures last { OnOk result (last_in lists.new ≡ last_in lists.old) }
 {
     for to in moves {
         let row = row_for(schema, tables, change, to.id);
@@ -160,6 +162,7 @@ fn follow_text<L: Ledger>(
         (documents_from schema.now (changed tables.now change.now)) (λ _. true) old lists.old
         → OnOk result (Carries (documents_from schema.now tables.now) (documents_from schema.now (changed tables.now change.now)) old lists.new) }
     ensures at_scores { OnOk result (IsAtScores (score_at schema.now (changed tables.now change.now)) lists.new) }
+    ensures last { OnOk result (last_in lists.new ≡ last_in lists.old) }
 {
     let Some(row) = edited_row(schema, change) else {
         return Ok(());
@@ -190,6 +193,7 @@ pub fn follow<L: Ledger>(
     ensures carries { OnOk result (Carries (documents_from schema.now tables.now) (documents_from schema.now (changed tables.now change.now))
         lists.old lists.new) }
     ensures at_scores { OnOk result (IsAtScores (score_at schema.now (changed tables.now change.now)) lists.new) }
+    ensures last { OnOk result (last_in lists.new ≡ last_in lists.old) }
 {
     follow_moves(alloc, lists, schema, tables, change, moves, steps)?;
     follow_text(alloc, lists, schema, tables, change, steps)?;

@@ -3,7 +3,9 @@
 
 mod catalog;
 mod contents;
+mod documents;
 mod follow;
+mod merge;
 mod search;
 
 pub use catalog::Catalog;

@@ -19,7 +19,7 @@ use Rattle.svr_merge.specs.Runs.{Run}
 use Rattle.svr_merge.proofs.Paged.{fill-parts}
 use Rattle.svr_lists.specs.Layout.{IsFrontOf, PutsBehind, PutsTerm, Slices, SlicesOn}
 use Rattle.svr_lists.specs.Lists.{IsMergeOf, IsRunOf, ListsValue}
-use Rattle.svr_lists.specs.Slices.{IsSliceBy, Slice, SlicedTerm, pairs_under, slice_of, slice_with, sliced_term, taken_from}
+use Rattle.svr_lists.specs.Slices.{IsSliceBy, Slice, TermPages, pairs_under, slice_of, slice_with, sliced_term, taken_from}
 
 -- ---- the pages of one term
 
@@ -38,10 +38,10 @@ length-parts (part ∷ parts) fill =
     sum : (a b n : ℕ) → a ≡ 4096 → b ≡ 4096 * n → a + b ≡ 4096 * suc n
     sum a b n e f = omega (arith, e, f)
 
-length-pages : (ps : List Pair) → MayFillPages ps → length (pages_bytes ps) ≡ 4096 * length (page_parts ps)
+pub length-pages : (ps : List Pair) → MayFillPages ps → length (pages_bytes ps) ≡ 4096 * length (page_parts ps)
 length-pages ps may = length-parts (page_parts ps) (fill-parts (length ps) ps may)
 
-pub puts : (pairs keyed : List Pair) (term made : List ℕ) (old new : List SlicedTerm) (before after : List ℕ) → MayFillPages keyed
+pub puts : (pairs keyed : List Pair) (term made : List ℕ) (old new : List TermPages) (before after : List ℕ) → MayFillPages keyed
     → made ≡ pages_bytes keyed → keyed ≡ pairs → new ≡ old ++ (record { term = term; pages = length made / 4096 } ∷ [])
     → after ≡ before ++ made → PutsBehind term pairs old new before after
 puts pairs keyed term made old new before after may is same terms pages =
@@ -65,7 +65,16 @@ puts pairs keyed term made old new before after may is same terms pages =
 front-none : (pairs : List ℕ → List Pair) (left : List (List ℕ)) → IsFrontOf pairs (slice_with pairs (taken_from pairs 0 left)) [] [] left
 front-none pairs left = record { count = 0; whole = refl; terms_are = refl; pages_are = refl }
 
-front-more : (pairs : List ℕ → List Pair) (all : Slice) (terms new : List SlicedTerm) (pages after term : List ℕ) (left : List (List ℕ))
+-- where a slice isn't full the next term is taken
+pub front-goes : (pairs : List ℕ → List Pair) (all : Slice) (terms : List TermPages) (pages term : List ℕ) (left : List (List ℕ))
+    → (front : IsFrontOf pairs all terms pages (term ∷ left)) → length pages < 4194304
+    → taken_from pairs front.count (term ∷ left) ≡ term ∷ taken_from pairs (front.count + length (page_parts (pairs term))) left
+front-goes pairs all terms pages term left front few = rw (not_full (length pages) front.count front.whole few) refl
+  where
+    not_full : (a n : ℕ) → a ≡ 4096 * n → a < 4194304 → nat_le 1024 n ≡ false
+    not_full a n e lt = grind (arith, nat_tests)
+
+front-more : (pairs : List ℕ → List Pair) (all : Slice) (terms new : List TermPages) (pages after term : List ℕ) (left : List (List ℕ))
     → IsFrontOf pairs all terms pages (term ∷ left) → length pages < 4194304 → PutsBehind term (pairs term) terms new pages after
     → IsFrontOf pairs all new after left
 front-more pairs all terms new pages after term left front few puts = record {
@@ -74,7 +83,7 @@ front-more pairs all terms new pages after term left front few puts = record {
       ∙ sum (length pages) (length (pages_bytes (pairs term))) front.count (length (page_parts (pairs term))) front.whole puts.whole;
   terms_are = front.terms_are ∙ ap (λ (ts : List (List ℕ)). terms ++ map (λ t. sliced_term t (pairs t)) ts) goes_on
       ∙ sym (append_assoc terms (sliced_term term (pairs term) ∷ []) (map (λ t. sliced_term t (pairs t)) rest))
-      ∙ ap (λ (ts : List SlicedTerm). ts ++ map (λ t. sliced_term t (pairs t)) rest) (sym puts.terms_are);
+      ∙ ap (λ (ts : List TermPages). ts ++ map (λ t. sliced_term t (pairs t)) rest) (sym puts.terms_are);
   pages_are = front.pages_are ∙ ap (λ (ts : List (List ℕ)). pages ++ flat_map (λ t. pages_bytes (pairs t)) ts) goes_on
       ∙ sym (append_assoc pages (pages_bytes (pairs term)) (flat_map (λ t. pages_bytes (pairs t)) rest))
       ∙ ap (λ (bs : List ℕ). bs ++ flat_map (λ t. pages_bytes (pairs t)) rest) (sym puts.pages_are);
@@ -86,18 +95,15 @@ front-more pairs all terms new pages after term left front few puts = record {
     sum : (a b n m : ℕ) → a ≡ 4096 * n → b ≡ 4096 * m → a + b ≡ 4096 * (n + m)
     sum a b n m e f = omega (arith, e, f)
 
-    not_full : (a n : ℕ) → a ≡ 4096 * n → a < 4194304 → nat_le 1024 n ≡ false
-    not_full a n e lt = grind (arith, nat_tests)
-
     goes_on : taken_from pairs front.count (term ∷ left) ≡ term ∷ rest
-    goes_on = rw (not_full (length pages) front.count front.whole few) refl
+    goes_on = front-goes pairs all terms pages term left front few
 
 -- where no more is taken, a slice is whole
-front-all : (pairs : List ℕ → List Pair) (all made : Slice) (terms : List SlicedTerm) (pages : List ℕ) (left : List (List ℕ))
+front-all : (pairs : List ℕ → List Pair) (all made : Slice) (terms : List TermPages) (pages : List ℕ) (left : List (List ℕ))
     → (front : IsFrontOf pairs all terms pages left) → taken_from pairs front.count left ≡ [] → made.terms ≡ terms → made.pages ≡ pages
     → made ≡ all
 front-all pairs all made terms pages left front none same_terms same_pages =
-    ap₂ (λ (ts : List SlicedTerm) (bs : List ℕ). record { terms = ts; pages = bs })
+    ap₂ (λ (ts : List TermPages) (bs : List ℕ). record { terms = ts; pages = bs })
     (same_terms ∙ sym (front.terms_are ∙ ap (λ (ts : List (List ℕ)). terms ++ map (λ t. sliced_term t (pairs t)) ts) none ∙ append-nil terms))
     (same_pages ∙ sym (front.pages_are ∙ ap (λ (ts : List (List ℕ)). pages ++ flat_map (λ t. pages_bytes (pairs t)) ts) none ∙ append-nil pages))
 
@@ -111,20 +117,26 @@ take-none (suc n) = refl
 
 -- ---- for each listing and merge
 
-pub slices-none : (index : Indexed) (run : Run) (most still : ℕ) (bytes : List ℕ) (last : Option (List ℕ)) → last ≡ run.last → still ≡ most
-    → SlicesOn index run most still bytes last [] []
-slices-none index run most still bytes last is_last all tokens l m is stood stands =
-    subst (λ (n : ℕ). IsFrontOf pairs (slice_of (stands_by (pairs_told bytes) l) l m most) [] [] (take n (filter (is_after last) (live_terms l))))
-    (sym all)
-    (subst (λ (x : Option (List ℕ)). IsFrontOf pairs (slice_of (stands_by (pairs_told bytes) l) l m most) [] []
-    (take most (filter (is_after x) (live_terms l)))) (sym (is_last ∙ stands.last))
-    (front-none pairs (take most (terms_left l m))))
+pub slices-none : (index : Indexed) (run : Run) (most still : ℕ) (bytes : List ℕ) (last : Option (List ℕ)) (terms : List TermPages)
+    (pages : List ℕ) → last ≡ run.last → still ≡ most → terms ≡ [] → pages ≡ [] → SlicesOn index run most still bytes last terms pages
+slices-none index run most still bytes last terms pages is_last all no_terms no_pages tokens l m is stood stands =
+    subst (λ (ts : List TermPages). IsFrontOf pairs slice ts pages left) (sym no_terms)
+    (subst (λ (bs : List ℕ). IsFrontOf pairs slice [] bs left) (sym no_pages)
+    (subst (λ (n : ℕ). IsFrontOf pairs slice [] [] (take n (filter (is_after last) (live_terms l)))) (sym all)
+    (subst (λ (x : Option (List ℕ)). IsFrontOf pairs slice [] [] (take most (filter (is_after x) (live_terms l)))) (sym (is_last ∙ stands.last))
+    (front-none pairs (take most (terms_left l m))))))
   where
     pairs : List ℕ → List Pair
     pairs = pairs_under (stands_by (pairs_told bytes) l) l m
 
+    slice : Slice
+    slice = slice_of (stands_by (pairs_told bytes) l) l m most
+
+    left : List (List ℕ)
+    left = take still (filter (is_after last) (live_terms l))
+
 pub slices-more : (index : Indexed) (run : Run) (most still less : ℕ) (bytes : List ℕ) (after : Option (List ℕ)) (term : List ℕ)
-    (terms new : List SlicedTerm) (pages behind : List ℕ) → still ≡ suc less → SlicesOn index run most still bytes after terms pages
+    (terms new : List TermPages) (pages behind : List ℕ) → still ≡ suc less → SlicesOn index run most still bytes after terms pages
     → IsNextLive index after (Some term) → length pages < 4194304 → PutsTerm index run term bytes terms new pages behind
     → SlicesOn index run most less bytes (Some term) new behind
 slices-more index run most still less bytes after term terms new pages behind one on next few puts tokens l m is stood stands =
@@ -152,7 +164,7 @@ slices-more index run most still less bytes after term terms new pages behind on
         (puts l m is.documents.ascend stood stands))
 
 -- a slice ends where it is full, where no term is left, or where so many were taken
-pub slices-full : (index : Indexed) (run : Run) (most still : ℕ) (bytes : List ℕ) (after : Option (List ℕ)) (terms : List SlicedTerm)
+pub slices-full : (index : Indexed) (run : Run) (most still : ℕ) (bytes : List ℕ) (after : Option (List ℕ)) (terms : List TermPages)
     (pages : List ℕ) (made : Slice) → SlicesOn index run most still bytes after terms pages → 4194304 ≤ length pages → made.terms ≡ terms
     → made.pages ≡ pages → Slices index run most bytes made
 slices-full index run most still bytes after terms pages made on many same_terms same_pages tokens l m is stood stands =
@@ -162,7 +174,7 @@ slices-full index run most still bytes after terms pages made on many same_terms
     full : (a n : ℕ) → a ≡ 4096 * n → 4194304 ≤ a → 1024 ≤ n
     full a n e le = omega (arith, e, le)
 
-pub slices-left : (index : Indexed) (run : Run) (most still : ℕ) (bytes : List ℕ) (after : Option (List ℕ)) (terms : List SlicedTerm)
+pub slices-left : (index : Indexed) (run : Run) (most still : ℕ) (bytes : List ℕ) (after : Option (List ℕ)) (terms : List TermPages)
     (pages : List ℕ) (made : Slice) → SlicesOn index run most still bytes after terms pages → IsNextLive index after None
     → made.terms ≡ terms → made.pages ≡ pages → Slices index run most bytes made
 slices-left index run most still bytes after terms pages made on next same_terms same_pages tokens l m is stood stands =
@@ -177,7 +189,7 @@ slices-left index run most still bytes after terms pages made on next same_terms
         same_terms same_pages
     by (t ∷ ts) n front = absurd (cc)
 
-pub slices-taken : (index : Indexed) (run : Run) (most still : ℕ) (bytes : List ℕ) (after : Option (List ℕ)) (terms : List SlicedTerm)
+pub slices-taken : (index : Indexed) (run : Run) (most still : ℕ) (bytes : List ℕ) (after : Option (List ℕ)) (terms : List TermPages)
     (pages : List ℕ) (made : Slice) → SlicesOn index run most still bytes after terms pages → still ≡ 0 → made.terms ≡ terms
     → made.pages ≡ pages → Slices index run most bytes made
 slices-taken index run most still bytes after terms pages made on none same_terms same_pages tokens l m is stood stands =

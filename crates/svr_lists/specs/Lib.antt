@@ -3,3 +3,4 @@ pub mod Lists
 pub mod Merges
 pub mod Publish
 pub mod Slices
+pub mod Taken

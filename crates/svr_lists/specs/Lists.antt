@@ -36,6 +36,10 @@ pub record StandsForServed (v : ListsValue) (s : Served) : Type 0 where
   pub index : StandsFor v.index s.listing
   pub merge : IsMergeOf (documents_of s.listing) v.merge s.merge
 
+-- the last sliced term of the merge that is begun, if one is
+abbrev pub last_in : ListsValue → Option (Option (List ℕ))
+last_in v = option_map (λ run. run.last) v.merge
+
 -- ---- changes
 
 -- a document stands that has this score and this text

@@ -5,7 +5,7 @@ ghost use Rattle.svr_listing.specs.Changes.{entry_now, moved_to};
 ghost use Rattle.svr_tokens.specs.Tokens.{tokens_of};
 ghost use Rattle.svr_index.specs.Index.{Comes, Follows, IsEdited, IsScored, KeepsEntries, SetsEntry};
 ghost use Rattle.svr_lists.specs.Layout.{IsTouched};
-ghost use Rattle.svr_lists.specs.Lists.{ComesWithText, FollowsDocument, GoesAway, IsAtScores, IsRescored, IsRewritten, SetsScore};
+ghost use Rattle.svr_lists.specs.Lists.{ComesWithText, FollowsDocument, GoesAway, IsAtScores, IsRescored, IsRewritten, SetsScore, last_in};
 
 use crate::lists::Lists;
 use std::alloc::Global;
@@ -106,6 +106,7 @@ impl Lists {
         ensures follows { OnOk result (FollowsDocument self.old self.new id (ComesWithText score text.now)) }
         ensures at_scores { (old new : ℕ → Option ℕ) → IsAtScores old self.old → SetsScore old new id (Some score)
             → OnOk result (IsAtScores new self.new) }
+        ensures last { OnOk result (last_in self.new ≡ last_in self.old) }
     {
         text_in(&mut self.index, alloc, id, score, text, steps)?;
         touch(&mut self.merge, id);
@@ -116,6 +117,7 @@ impl Lists {
     pub fn goes<L: Ledger>(&mut self, id: DocId, steps: &mut Steps<L>)
         ensures follows { FollowsDocument self.old self.new id GoesAway }
         ensures at_scores { (old new : ℕ → Option ℕ) → IsAtScores old self.old → SetsScore old new id None → IsAtScores new self.new }
+        ensures last { last_in self.new ≡ last_in self.old }
     {
         self.index.doc_out(id, steps);
         touch(&mut self.merge, id);
@@ -136,6 +138,7 @@ impl Lists {
         ensures follows { OnOk result (FollowsDocument self.old self.new id (IsRescored score text.now)) }
         ensures at_scores { (old new : ℕ → Option ℕ) → IsAtScores old self.old → SetsScore old new id (Some score)
             → OnOk result (IsAtScores new self.new) }
+        ensures last { OnOk result (last_in self.new ≡ last_in self.old) }
     {
         text_scored(&mut self.index, alloc, id, score, text, steps)?;
         touch(&mut self.merge, id);
@@ -155,6 +158,7 @@ impl Lists {
         requires listed { IsSome (value_at self.old.index.entries id) }
         ensures follows { OnOk result (FollowsDocument self.old self.new id (IsRewritten old.now new.now)) }
         ensures at_scores { (score : ℕ → Option ℕ) → IsAtScores score self.old → OnOk result (IsAtScores score self.new) }
+        ensures last { OnOk result (last_in self.new ≡ last_in self.old) }
     {
         if old == new {
             return Ok(());

@@ -4,10 +4,13 @@
 mod change;
 mod lists;
 mod merge;
+mod pages;
 mod publish;
 mod search;
 mod slice;
+mod taken;
 
 pub use lists::Lists;
 pub use publish::DocumentText;
-pub use slice::{Slice, SlicedTerm};
+pub use slice::Slice;
+pub use taken::SliceFault;

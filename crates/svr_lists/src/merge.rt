@@ -1,9 +1,9 @@
-ghost use Rattle.std.specs.Prelude.{◌≡◌, ◌<◌, ◌≤◌, ◌^◌, ℕ, All, None, OnErr, OnOk, Option, option_map, true};
+ghost use Rattle.std.specs.Prelude.{◌≡◌, ◌<◌, ◌≤◌, ◌^◌, ℕ, All, None, OnErr, OnOk, Option, Some, option_map};
 ghost use Rattle.std.specs.Option.{is_some};
 ghost use Rattle.svr_merge.specs.Rules.{rules_now};
 ghost use Rattle.svr_schema.specs.Lawful.{IsMethod};
 ghost use Rattle.svr_lists.specs.Layout.{CountsBehind};
-ghost use Rattle.svr_lists.specs.Lists.{IsAtScores};
+ghost use Rattle.svr_lists.specs.Lists.{IsAtScores, last_in};
 ghost use Rattle.svr_lists.specs.Merges.{AreScoresOf, BeginsMerge, CountsLeft, ForgetsMerge};
 
 use crate::lists::Lists;
@@ -43,7 +43,7 @@ impl Lists {
         ensures begins { OnOk result (BeginsMerge self.old self.new documents.now (rules_now spec.now documents.now)) }
         ensures at_scores { (score : ℕ → Option ℕ) → IsAtScores score self.old → AreScoresOf documents.now score
             → OnOk result (IsAtScores score self.new) }
-        ensures begun { OnOk result (is_some self.new.merge ≡ true) }
+        ensures last { OnOk result (last_in self.new ≡ Some None) }
         ensures kept { self.new.index ≡ self.old.index }
         ensures err { OnErr result (self.new ≡ self.old) }
     {
@@ -63,7 +63,7 @@ impl Lists {
 
     /// Whether a merge is begun.
     pub fn is_begun(&self) -> bool
-        ensures { result ≡ is_some self.now.merge }
+        ensures { result ≡ is_some (last_in self.now) }
     {
         self.merge.is_some()
     }
@@ -71,7 +71,7 @@ impl Lists {
     /// How many terms the merge has left, if one is begun. It takes no memory.
     pub fn left(&self) -> Option<u64>
         ensures count { CountsLeft self.now result }
-        ensures begun { is_some result ≡ is_some self.now.merge }
+        ensures begun { is_some result ≡ is_some (last_in self.now) }
     {
         let Some(run) = &self.merge else {
             return None;

@@ -4,7 +4,7 @@ ghost use Rattle.svr_idmap.specs.Ids.{value_at};
 ghost use Rattle.svr_index.specs.Index.{KeepsEntries, Takes};
 ghost use Rattle.svr_listing.specs.Merges.{entry_by};
 ghost use Rattle.svr_lists.specs.Layout.{AreEntriesBy, InstallsRun, PlacesAll, PlacesOne};
-ghost use Rattle.svr_lists.specs.Lists.{IsAtScores};
+ghost use Rattle.svr_lists.specs.Lists.{IsAtScores, last_in};
 ghost use Rattle.svr_lists.specs.Publish.{AreScoresIn, Publishes};
 
 use crate::lists::Lists;
@@ -132,7 +132,7 @@ impl Lists {
         ensures publishes { OnOk result (Publishes self.old self.new documents.now) }
         ensures at_scores { (score : ℕ → Option ℕ) → IsAtScores score self.old → AreScoresIn documents.now score
             → OnOk result (IsAtScores score self.new) }
-        ensures ended { OnOk result (self.new.merge ≡ None) }
+        ensures last { OnOk result (last_in self.new ≡ None) }
     {
         let Some(run) = self.merge.take() else {
             return Ok(());

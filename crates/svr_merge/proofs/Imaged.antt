@@ -14,8 +14,7 @@ use Rattle.svr_listing.proofs.Cutting.{Differ, PairsInOrder, any-in_page_order, 
 use Rattle.svr_postpage.specs.declared.pair.Pair.{Pair}
 use Rattle.svr_postpage.specs.Pairs.{are_in_order, is_in_range}
 use Rattle.svr_merge.specs.Images.{MayFillPages, pair_by, pairs_by}
-use Rattle.svr_merge.specs.Layout.{HaveKeys, IsKeyOf}
-use Rattle.svr_merge.specs.Runs.{Run, StandsForMerge}
+use Rattle.svr_merge.specs.Runs.{HaveKeys, IsKeyOf, Run, StandsForMerge}
 
 -- ---- ids in their order
 
@@ -90,13 +89,16 @@ next_to_next [] order = refl
 next_to_next (p ∷ []) order = refl
 next_to_next (p ∷ q ∷ ps) order = rw order.0.0 (next_to_next (q ∷ ps) order.1)
 
-pub may_fill : (keys : List (ℕ × ℕ)) (ids : List ℕ) → HaveKeys keys → IsStrictlyIncreasing ids → MayFillPages (pairs_by keys ids)
-may_fill keys ids have up = record {
+-- the pairs of rising ids may fill pages
+pub may_fill-rising : (keys : List (ℕ × ℕ)) (ids : List ℕ) → HaveKeys keys → Rises ids → MayFillPages (pairs_by keys ids)
+may_fill-rising keys ids have up = record {
   within = all-none (pairs_by keys ids)
       (any-in_page_order (λ (p : Pair). not (is_in_range p)) (filter_map (pair_by keys) ids) ∙ within keys ids have);
-  ordered = next_to_next (pairs_by keys ids)
-      (in_page_order-in_order (filter_map (pair_by keys) ids) (differ keys ids (rises-from ids up)));
+  ordered = next_to_next (pairs_by keys ids) (in_page_order-in_order (filter_map (pair_by keys) ids) (differ keys ids up));
 }
+
+pub may_fill : (keys : List (ℕ × ℕ)) (ids : List ℕ) → HaveKeys keys → IsStrictlyIncreasing ids → MayFillPages (pairs_by keys ids)
+may_fill keys ids have up = may_fill-rising keys ids have (rises-from ids up)
 
 -- the pairs of one more id
 pub pairs-more : (keys : List (ℕ × ℕ)) (ids : List ℕ) (i : ℕ) (old new : List Pair) → i < length ids

@@ -13,7 +13,8 @@ use Rattle.svr_listing.specs.Merges.{cut, in_page_order, pages_from, pages_with,
 use Rattle.svr_long.specs.Heads.{are_heads, heads, is_before_all}
 use Rattle.svr_postpage.specs.declared.pair.Pair.{Pair}
 use Rattle.svr_postpage.specs.Pages.{page_bytes}
-use Rattle.svr_postpage.specs.Pairs.{are_in_order, fill_a_page, is_before, is_in_range}
+use Rattle.svr_postpage.specs.declared.page_ref.PageRef.{PageRef}
+use Rattle.svr_postpage.specs.Pairs.{are_in_order, fill_a_page, first_pair, is_before, is_in_range}
 use Rattle.svr_merge.specs.Images.{MayFillPages, pages_bytes}
 use Rattle.svr_merge.specs.Layout.{page_rank}
 use Rattle.svr_merge.proofs.Sorting.{Tells, in_order, in_order-is, put}
@@ -155,7 +156,7 @@ fill-parts (suc limit) [] may = tt
 fill-parts (suc limit) (p ∷ ps) may =
     (fill-first (p ∷ ps) (omega arith) may, fill-parts limit (drop 255 (p ∷ ps)) (may-rest 255 (p ∷ ps) may))
 
-before_later : (a b c : Pair) → is_before a b ≡ true → is_before b c ≡ true → is_before a c ≡ true
+pub before_later : (a b c : Pair) → is_before a b ≡ true → is_before b c ≡ true → is_before a c ≡ true
 before_later a b c e f = grind (arith, nat_tests)
 
 first_before : (n : ℕ) (p : Pair) (ps : List Pair) (r : Pair) (rs : List Pair) → are_in_order (p ∷ ps) ≡ true → drop n ps ≡ r ∷ rs
@@ -193,3 +194,19 @@ pub heads-pages_with : (place : ℕ → ℕ) (n : ℕ) (ps : List Pair) → MayF
     → are_heads (map (λ page. page.head) (pages_with place n ps)) ≡ true
 unfolding pages_with
 heads-pages_with place n ps may = heads-cut place n (length ps) ps may
+
+-- ---- pages that begin as those of one term do
+
+-- the first pairs of pages are within their ranges and in page order
+abbrev pub BeginInOrder : List PageRef → Type 0
+BeginInOrder pages = are_heads pages ≡ true
+
+pub begin-none : BeginInOrder []
+begin-none = refl
+
+-- one more in front, whose first pair stands before the next one
+pub begin-more : (ref : PageRef) (refs : List PageRef) → is_in_range (first_pair ref) ≡ true
+    → ((next : PageRef) (rest : List PageRef) → refs ≡ next ∷ rest → is_before (first_pair ref) (first_pair next) ≡ true)
+    → BeginInOrder refs → BeginInOrder (ref ∷ refs)
+begin-more ref [] within before more = rw within refl
+begin-more ref (next ∷ refs) within before more = rw within (rw (before next refs refl) more)

@@ -5,16 +5,15 @@ use Rattle.std.specs.Str.{bytes_eq}
 use Rattle.std.proofs.lemmas.Bool.Decides.{nat_tests}
 use Rattle.svr_chunks.specs.Chosen.{chosen_rules}
 use Rattle.svr_idmap.specs.Ids.{value_at}
-use Rattle.svr_listing.specs.Listing.{Listing, pages_of}
-use Rattle.svr_listing.specs.declared.document.Listed.{Listed}
+use Rattle.svr_listing.specs.Listing.{pages_of}
 use Rattle.svr_listing.specs.declared.pages.Page.{Page}
 use Rattle.svr_listing.specs.declared.pages.TermPages.{TermPages}
-use Rattle.svr_listing.specs.Merges.{Merge, by_bytes, is_after, new_pairs, pages_with, with_term}
+use Rattle.svr_listing.specs.Merges.{Merge, by_bytes, is_after}
 use Rattle.svr_listing.proofs.Terms.{after_later, not_before_itself, same_term}
 use Rattle.svr_long.specs.Lists.{pages_at}
 use Rattle.svr_postpage.specs.declared.page_ref.PageRef.{PageRef}
 use Rattle.svr_merge.specs.Layout.{NoLater}
-use Rattle.svr_merge.specs.Runs.{PutsPages, Run, StandsForMerge, if_any}
+use Rattle.svr_merge.specs.Runs.{PutsPages, Run, StandsForMerge, if_any, pages_under}
 
 turn : (a b : List ℕ) → bytes_eq a b ≡ bytes_eq b a
 turn [] [] = refl
@@ -36,7 +35,7 @@ no_later-put last term old new pages none after puts t later = puts t ∙ by (by
         absurd (let never = not_before_itself term in cc)
     by false e = none t (after_later last term t after later)
 
--- ---- a run stands for the merge in which the term is sliced
+-- ---- a run stands for the merge that has the term and its pages more
 
 refs-append : (xs ys : List Page) → map (λ (p : Page). p.head) (xs ++ ys) ≡ map (λ (p : Page). p.head) xs ++ map (λ (p : Page). p.head) ys
 refs-append [] ys = refl
@@ -70,38 +69,40 @@ under-if_any : (pages : List PageRef) → unwrap_or (if_any pages) [] ≡ pages
 under-if_any [] = refl
 under-if_any (page ∷ pages) = refl
 
--- what a slice of one more term does to a run
+-- what a slice of one more term, which has no pages yet, does to a run
 pub record Slices (old new : Run) (term : List ℕ) (pages : List PageRef) : Type 0 where
+  pub absent : pages_at old.lists term ≡ None
   pub last : new.last ≡ Some term
   pub pages_put : PutsPages old.lists new.lists term pages
   pub kept : new ≡ record old { last = new.last; lists = new.lists }
 
-pub stands-sliced : (place : ℕ → ℕ) (stands : List ℕ → Listed → Bool) (l : Listing) (m : Merge) (n : ℕ) (term : List ℕ)
-    (old new : Run) (pages : List PageRef) → StandsForMerge old m
-    → ((t : List ℕ) → is_after m.last t ≡ true → pages_of m.lists t ≡ []) → is_after m.last term ≡ true → Slices old new term pages
-    → pages ≡ map (λ page. page.head) (pages_with place n (new_pairs (stands term) l m))
-    → StandsForMerge new (with_term place stands l m n term)
-stands-sliced place stands l m n term old new pages was none after slices are = record {
+pub stands-sliced : (m : Merge) (list : TermPages) (old new : Run) (pages : List PageRef) → StandsForMerge old m
+    → Slices old new list.term pages → pages ≡ map (λ page. page.head) list.pages
+    → StandsForMerge new (record { rules = m.rules; keys = m.keys; last = Some list.term; lists = m.lists ++ (list ∷ []) })
+stands-sliced m list old new pages was slices are = record {
   rules = ap (λ (r : Run). chosen_rules r.method) slices.kept ∙ was.rules;
   keys = λ id. ap (λ (r : Run). value_at r.keys id) slices.kept ∙ was.keys id;
   last = slices.last;
   pages = λ t.
       ap (λ (o : Option (List PageRef)). unwrap_or o []) (slices.pages_put t)
-      ∙ by t (bytes_eq term t) refl
-      ∙ sym (refs-more m.lists (record { term = term; pages = pages_with place n (new_pairs (stands term) l m) }) t);
+      ∙ by t (bytes_eq list.term t) refl
+      ∙ sym (refs-more m.lists list t);
 }
   where
-    by : (t : List ℕ) (b : Bool) → bytes_eq term t ≡ b → unwrap_or (cond b (if_any pages) (pages_at old.lists t)) []
+    none_yet : (t : List ℕ) → list.term ≡ t → map (λ (page : Page). page.head) (pages_of m.lists t) ≡ []
+    none_yet t same =
+        sym (was.pages t)
+        ∙ subst (λ (s : List ℕ). pages_under old.lists s ≡ []) same (ap (λ (o : Option (List PageRef)). unwrap_or o []) slices.absent)
+
+    by : (t : List ℕ) (b : Bool) → bytes_eq list.term t ≡ b → unwrap_or (cond b (if_any pages) (pages_at old.lists t)) []
         ≡ map (λ (page : Page). page.head) (pages_of m.lists t)
-        ++ cond (bytes_eq t term) (map (λ (page : Page). page.head) (pages_with place n (new_pairs (stands term) l m))) []
+        ++ cond (bytes_eq t list.term) (map (λ (page : Page). page.head) list.pages) []
     by t true e =
         under-if_any pages ∙ are
-        ∙ ap₂ (λ (ps : List Page) (b : Bool). map (λ (page : Page). page.head) ps
-        ++ cond b (map (λ (page : Page). page.head) (pages_with place n (new_pairs (stands term) l m))) [])
-        (sym (subst (λ (s : List ℕ). pages_of m.lists s ≡ []) (same_term term t e) (none term after)))
-        (sym (turn t term ∙ e))
+        ∙ ap₂ (λ (refs : List PageRef) (b : Bool). refs ++ cond b (map (λ (page : Page). page.head) list.pages) [])
+        (sym (none_yet t (same_term list.term t e))) (sym (turn t list.term ∙ e))
     by t false e =
         was.pages t
         ∙ sym (append-nil (map (λ (page : Page). page.head) (pages_of m.lists t)))
         ∙ ap (λ (b : Bool). map (λ (page : Page). page.head) (pages_of m.lists t)
-        ++ cond b (map (λ (page : Page). page.head) (pages_with place n (new_pairs (stands term) l m))) []) (sym (turn t term ∙ e))
+        ++ cond b (map (λ (page : Page). page.head) list.pages) []) (sym (turn t list.term ∙ e))

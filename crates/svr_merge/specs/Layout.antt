@@ -1,5 +1,5 @@
 -- Words of private clauses.
-use Rattle.std.specs.Prelude.{◌≡◌, ◌<◌, ◌^◌, ℕ, ◌==◌, List, Option, None, find, option_map, IfSome, true}
+use Rattle.std.specs.Prelude.{◌≡◌, ℕ, ◌==◌, List, Option, None, find, option_map, true}
 use Rattle.std.specs.Ordering.{flip_args, nat_cmp, on, then_cmp}
 use Rattle.std.specs.declared.cmp.Ordering.{Ordering}
 use Rattle.svr_num.specs.declared.hit.Hit.{Hit}
@@ -17,15 +17,6 @@ key_among rules documents id = option_map (λ d. rules.key d.score) (find (λ d.
 -- each id has the key of its document's score
 abbrev pub HasKeysOf : Rules → List Hit → List (ℕ × ℕ) → Type 0
 HasKeysOf rules documents keys = (id : ℕ) → value_at keys id ≡ key_among rules documents id
-
--- a key and an id within their ranges
-pub record IsKeyOf (id key : ℕ) : Type 0 where
-  pub key_fits : key < 2 ^ 48
-  pub id_fits : id < 2 ^ 63
-
--- each key and its id are within their ranges
-abbrev pub HaveKeys : List (ℕ × ℕ) → Type 0
-HaveKeys keys = (id : ℕ) → IfSome (value_at keys id) (IsKeyOf id)
 
 -- no term after the last one has pages
 abbrev pub NoLater : Option (List ℕ) → List (List ℕ × List PageRef) → Type 0

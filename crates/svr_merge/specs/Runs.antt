@@ -1,5 +1,5 @@
 -- A merge that was begun, and the merge of a listing that it stands for.
-use Rattle.std.specs.Prelude.{◌≡◌, ℕ, List, [], ◌∷◌, map, Option, None, Some, unwrap_or, if◌then◌else◌}
+use Rattle.std.specs.Prelude.{◌≡◌, ◌<◌, ◌^◌, ℕ, List, [], ◌∷◌, map, Option, None, Some, IfSome, unwrap_or, if◌then◌else◌}
 use Rattle.std.specs.Str.{bytes_eq}
 use Rattle.svr_chunks.specs.declared.chosen.Chosen.{Chosen}
 use Rattle.svr_chunks.specs.Chosen.{chosen_rules}
@@ -16,6 +16,15 @@ pub record Run : Type 0 where
   pub keys : List (ℕ × ℕ)
   pub last : Option (List ℕ)
   pub lists : List (List ℕ × List PageRef)
+
+-- a key and an id within their ranges
+pub record IsKeyOf (id key : ℕ) : Type 0 where
+  pub key_fits : key < 2 ^ 48
+  pub id_fits : id < 2 ^ 63
+
+-- each key and its id are within their ranges
+abbrev pub HaveKeys : List (ℕ × ℕ) → Type 0
+HaveKeys keys = (id : ℕ) → IfSome (value_at keys id) (IsKeyOf id)
 
 -- the pages of a term; none where it has none
 abbrev pub pages_under : List (List ℕ × List PageRef) → List ℕ → List PageRef

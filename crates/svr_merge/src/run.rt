@@ -10,8 +10,8 @@ ghost use Rattle.svr_long.specs.Lists.{pages_at};
 ghost use Rattle.svr_schema.specs.Lawful.{IsMethod};
 ghost use Rattle.svr_merge.specs.Images.{MayFillPages, pages_bytes, pairs_by};
 ghost use Rattle.svr_merge.specs.Rules.{rules_now};
-ghost use Rattle.svr_merge.specs.Layout.{HasKeysOf, HaveKeys};
-ghost use Rattle.svr_merge.specs.Runs.{PutsPages, StandsForMerge};
+ghost use Rattle.svr_merge.specs.Layout.{HasKeysOf};
+ghost use Rattle.svr_merge.specs.Runs.{HaveKeys, PutsPages, StandsForMerge};
 
 use crate::method::method_for;
 use crate::pages::{pairs_by, write_pages};
@@ -38,8 +38,8 @@ pub struct MergeRun {
 }
 
 impl Model for MergeRun {
-    ghost use Rattle.svr_merge.specs.Layout.{HaveKeys, NoLater};
-    ghost use Rattle.svr_merge.specs.Runs.{Run};
+    ghost use Rattle.svr_merge.specs.Layout.{NoLater};
+    ghost use Rattle.svr_merge.specs.Runs.{HaveKeys, Run};
 
     ghost Value = { Run };
 
@@ -93,8 +93,9 @@ impl MergeRun {
         requires ids { All (λ d. d.id < 2 ^ 63) documents.now }
         requires scores { All (λ d. d.score ≤ SCORE_MAX) documents.now }
         requires lawful { IsMethod spec.now }
-        ensures { IfOk result (λ run. (ds : List Document) → map hit_of ds ≡ documents.now
+        ensures stands { IfOk result (λ run. (ds : List Document) → map hit_of ds ≡ documents.now
             → StandsForMerge run (begin (rules_now spec.now documents.now) ds)) }
+        ensures unsliced { IfOk result (λ run. run.last ≡ None) }
     {
         let scores = scores_of(alloc, documents)?;
         let method = method_for(spec, scores.as_slice());
@@ -134,6 +135,7 @@ impl MergeRun {
     pub fn sliced(&mut self, alloc: Global, term: Text, pages: Vec<PageRef>) -> Result<(), Memory>
         requires after { is_after self.old.last term ≡ true }
         requires heads { are_heads pages.items ≡ true }
+        ensures absent { OnOk result (pages_at self.old.lists term ≡ None) }
         ensures last { OnOk result (self.new.last ≡ Some term) }
         ensures pages { OnOk result (PutsPages self.old.lists self.new.lists term pages.items) }
         ensures kept { OnOk result (self.new ≡ record self.old { last = self.new.last; lists = self.new.lists }) }
@@ -147,7 +149,8 @@ impl MergeRun {
 
     /// The last sliced term.
     pub fn last(&self) -> Option<&Text>
-        ensures { option_copied result ≡ self.now.last }
+        ensures value { option_copied result ≡ self.now.last }
+        ensures within { HaveKeys self.now.keys }
     {
         self.last.as_ref()
     }

@@ -12,4 +12,4 @@ follow_text-requires-clause-at_scores g c =
     let now = changed c.args.tables.now c.args.change.now in
     at_scores-same (score_in (documents_from s now)) (score_at s now) c.follow_moves.new.lists (score_in-documents s now)
     (midway-scores (documents_from s c.args.tables.now) (documents_from s now) c.args.lists.now c.follow_moves.new.lists
-    c.in_ok-follow_moves.ensures)
+    c.in_ok-follow_moves.ensures.midway)

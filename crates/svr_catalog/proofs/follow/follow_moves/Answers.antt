@@ -22,11 +22,13 @@ no_move = record { id = 0; old = None; new = None }
 pub loop-to-init : goal.loop-to-init
 loop-to-init g c =
     let s = c.args.schema.now in
-    let tables = c.args.tables.now in
-    midway-begin (documents_from s tables) (documents_from s (changed tables c.args.change.now)) c.args.lists.now
-    (documents-are s tables c.requires.tables)
-    (at_scores-same (score_at s tables) (score_in (documents_from s tables)) c.args.lists.now (λ id. sym (score_in-documents s tables id))
-    c.requires.at_scores)
+    let tables = c.args.tables.now in (
+      midway-begin (documents_from s tables) (documents_from s (changed tables c.args.change.now)) c.args.lists.now
+          (documents-are s tables c.requires.tables)
+          (at_scores-same (score_at s tables) (score_in (documents_from s tables)) c.args.lists.now (λ id. sym (score_in-documents s tables id))
+          c.requires.at_scores),
+      refl,
+    )
 
 pub follow_move-requires-clause-id : goal.follow_move-requires-clause-id
 follow_move-requires-clause-id g c =
@@ -74,7 +76,7 @@ follow_move-requires-clause-listed g c =
     let new = move-fresh (score_at s tables) (score_at s (changed tables change)) c.args.moves.now c.requires.moves i no_move m
     c.loop-to-test.true refl in
     move-listed s tables change c.requires.tables c.requires.accepted m is (seen_in (take i c.args.moves.now)) new c.args.lists.now
-    c.loop-to.lists c.loop-to.invariant
+    c.loop-to.lists c.loop-to.invariant.0
 
 pub loop-to-preserved : goal.loop-to-preserved
 loop-to-preserved g c =
@@ -86,18 +88,20 @@ loop-to-preserved g c =
     let is = move-is (score_at s tables) (score_at s (changed tables change)) c.args.moves.now c.requires.moves i no_move m
     c.loop-to-test.true refl in
     let new = move-fresh (score_at s tables) (score_at s (changed tables change)) c.args.moves.now c.requires.moves i no_move m
-    c.loop-to-test.true refl in
-    moves-more s tables change c.requires.tables c.requires.accepted c.args.moves.now i no_move m c.args.lists.now c.follow_move.new.lists
-    c.loop-to-test.true refl
-    (move-step s tables change c.requires.tables c.requires.accepted m is (seen_in (take i c.args.moves.now)) new c.args.lists.now
-    c.loop-to.lists c.loop-to.invariant (text_or_none s (option_map (λ row. row.now) c.row_for-row.result)) c.follow_move.new.lists
-    (ap (text_or_none s) c.row_for-row.ensures.row) c.in_ok-follow_move.ensures.follows c.in_ok-follow_move.ensures.at_scores)
+    c.loop-to-test.true refl in (
+      moves-more s tables change c.requires.tables c.requires.accepted c.args.moves.now i no_move m c.args.lists.now c.follow_move.new.lists
+          c.loop-to-test.true refl
+          (move-step s tables change c.requires.tables c.requires.accepted m is (seen_in (take i c.args.moves.now)) new c.args.lists.now
+          c.loop-to.lists c.loop-to.invariant.0 (text_or_none s (option_map (λ row. row.now) c.row_for-row.result)) c.follow_move.new.lists
+          (ap (text_or_none s) c.row_for-row.ensures.row) c.in_ok-follow_move.ensures.follows c.in_ok-follow_move.ensures.at_scores),
+      c.in_ok-follow_move.ensures.last ∙ c.loop-to.invariant.1,
+    )
 
-pub returns : goal.returns
-returns g c =
+pub returns-clause-midway : goal.returns-clause-midway
+returns-clause-midway g c =
     let s = c.args.schema.now in
     let tables = c.args.tables.now in
     let change = c.args.change.now in
     moves-all s tables change c.requires.tables c.requires.accepted c.args.moves.now c.args.lists.now c.loop-to.lists c.requires.moves
     (subst (λ (ms : List ScoreMove). IsMidway (documents_from s tables) (documents_from s (changed tables change)) (seen_in ms)
-    c.args.lists.now c.loop-to.lists) (take_all c.loop-to.to-index c.args.moves.now c.loop-to-test.false) c.loop-to.invariant)
+    c.args.lists.now c.loop-to.lists) (take_all c.loop-to.to-index c.args.moves.now c.loop-to-test.false) c.loop-to.invariant.0)

@@ -1,6 +1,7 @@
 use Rattle.std.proofs.Common.{◌≤◌, length, drop}
 use Rattle.svr_chunks.specs.Chosen.{chosen_rules}
-use Rattle.svr_merge.specs.Layout.{HasKeysOf, HaveKeys}
+use Rattle.svr_merge.specs.Layout.{HasKeysOf}
+use Rattle.svr_merge.specs.Runs.{HaveKeys}
 use Rattle.svr_merge.proofs.run.keys_by.Given as goal
 
 abbrev pub invariant-loop-at : goal.invariant-loop-at

@@ -1,4 +1,4 @@
-use Rattle.std.proofs.Common.{[], ◌∷◌, ◌++◌, reverse, sym, ap, subst, ◌∙◌, append_assoc}
+use Rattle.std.proofs.Common.{[], ◌∷◌, ◌++◌, reverse, refl, sym, ap, subst, ◌∙◌, append_assoc}
 use Rattle.std.proofs.lemmas.List.{reverse-reverse}
 use Rattle.svr_rows.specs.declared.change.Change.TheVariants.{Insert}
 use Rattle.svr_rows.specs.Changes.{changed, load_refusal, refusal_of}
@@ -16,6 +16,7 @@ loop-row-init g c = (
   c.requires.kept,
   λ s stood. subst (Stands (value_of c.args.schema.now c.args.self.now))
       (sym (listed_with_rows-none (value_of c.args.schema.now c.args.self.now).catalog s c.args.table)) stood,
+  refl,
 )
 
 pub change-requires-clause-accepted : goal.change-requires-clause-accepted
@@ -43,4 +44,5 @@ loop-row-preserved g c =
       c.in_ok-change.ensures.kept,
       rows-carried c.args.schema.now c.args.self.now c.loop-row.self c.change.new.self c.args.table inv.0 row now
           c.in_ok-change.ensures.kept.tables c.in_ok-change.ensures.carries inv.4,
+      c.in_ok-change.ensures.last ∙ inv.5,
     )

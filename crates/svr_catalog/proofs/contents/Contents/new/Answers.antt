@@ -3,6 +3,7 @@ use Rattle.svr_lists.specs.Lists.{IsAtScores}
 use Rattle.svr_view.specs.Score.{score_at}
 use Rattle.svr_view.specs.View.{AreTablesOf, StandsFor}
 use Rattle.svr_catalog.proofs.Midway.{at_scores-same}
+use Rattle.svr_catalog.proofs.Merging.{last-none}
 use Rattle.svr_catalog.proofs.Rows.{AreTablesOf-no_rows, score_at-no_rows}
 use Rattle.svr_catalog.proofs.contents.Contents.new.Goals as goal
 
@@ -16,3 +17,6 @@ returns-clause-kept c =
       lists = subst (λ ts. IsAtScores (score_at schema ts) c.new-3.result) is
           (at_scores-same (λ _. None) _ c.new-3.result (λ id. sym (score_at-no_rows schema id)) c.new-3.ensures.at_scores);
     }
+
+pub returns-clause-last : goal.returns-clause-last
+returns-clause-last c = last-none c.new-3.result _ c.new-3.ensures.stands

@@ -8,8 +8,8 @@ use Rattle.svr_merge.specs.Runs.{StandsForMerge}
 use Rattle.svr_merge.proofs.Begun.{begun}
 use Rattle.svr_merge.proofs.run.MergeRun.begin.Goals as goal
 
-pub returns : goal.returns
-returns c ds e =
+pub returns-clause-stands : goal.returns-clause-stands
+returns-clause-stands c ds e =
     let same : chosen_rules c.method_for-method.result ≡ rules_now c.args.spec.now c.args.documents.now = search rules in
     let keys : HasKeysOf (chosen_rules c.method_for-method.result) c.args.documents.now c.in_ok-keys.keys = search rules in
     subst (λ (lists : List (List ℕ × List PageRef)). StandsForMerge
