@@ -1,5 +1,5 @@
 -- What a search answers, and which pages it asks for, by what is served.
-use Rattle.std.proofs.Common.{◌≡◌, ℕ, List, Option, Some, Result, Ok, Err, IfOk, sym, ap, subst, ◌∙◌, ◌++◌}
+use Rattle.std.proofs.Common.{◌≡◌, true, ℕ, List, Option, Some, Result, Ok, Err, IfOk, sym, ap, subst, ◌∙◌, ◌++◌}
 use Rattle.std.specs.Option.{ForSome, option_map}
 use Rattle.svr_catalog.specs.Answers.{answer_of}
 use Rattle.svr_catalog.specs.Catalog.{Catalog, documents_in}
@@ -29,11 +29,11 @@ module _ (core : CoreValue) (v : CatalogValue) (kept : core.kept ≡ Some v) whe
   pub answered : (told : Option (List ℕ)) (result : Result Answer ScanFault) (terms : List (List ℕ)) (m : Mode) (k : ℕ)
       → IfOk result (λ answer. ForSome told (λ bytes. (l : listing.Served) → Stands v l → HoldsPosted (pairs_told bytes) l.listing
       → answer ≡ answer_of v.catalog l.listing terms m k))
-      → IfOk result (λ answer. ForSome told (λ bytes. (s : Served) → ServesAs core s → HoldsPosted (pairs_told bytes) s.listed.listing
+      → IfOk result (λ answer. ForSome told (λ bytes. (s : Served) → ServesAs core s → s.lawful ≡ true → HoldsPosted (pairs_told bytes) s.listed.listing
       → answer ≡ answer_in s terms m k))
   answered told (Err why) terms m k exact = tt
-  answered told (Ok answer) terms m k exact = λ bytes tells s serves holds.
-      exact bytes tells s.listed (serves.lists v kept) holds
+  answered told (Ok answer) terms m k exact = λ bytes tells s serves lawful holds.
+      exact bytes tells s.listed (serves.lists lawful v kept) holds
       ∙ ap (λ (o : Option Catalog). answer_by o s.listed terms m k) (catalog_is s serves)
 
   pub asked : {R : Type 0} (told : Option (List ℕ)) (gives : R → PageRef → R → Type 0) (fails : R → PageRef → PageFault → R → Type 0)
@@ -46,8 +46,8 @@ module _ (core : CoreValue) (v : CatalogValue) (kept : core.kept ≡ Some v) whe
     between = asks.between;
     in_turn = asks.in_turn;
     stops = asks.stops;
-    are_needed = λ bytes tells s serves holds.
-        let stands = serves.lists v kept in
+    are_needed = λ bytes tells s serves lawful holds.
+        let stands = serves.lists lawful v kept in
         let l = s.listed.listing in
         subst (λ (ds : List Document). ArePages result (asks.given ++ asks.left) (needed l q.terms q.mode q.k (score_in ds))) (sym stands.documents)
         (asks.are_needed bytes tells tokens_of l stands.served.listing stands.lists.index holds);

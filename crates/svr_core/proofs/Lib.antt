@@ -1,11 +1,16 @@
 pub mod Accepted
 pub mod Answered
 pub mod Asked
+pub mod Begun
 pub mod Deleted
 pub mod Edited
 pub mod Made
 pub mod Planned
+pub mod Recovering
 pub mod Replayed
+pub mod Runs
+pub mod Slicing
 pub mod SoFar
-pub mod Unposted
+pub mod Standing
+pub mod Taking
 pub mod Written

@@ -40,6 +40,7 @@ IsEdit-change c made h = record {
   entry = entry.Change made;
   outcome = ap (λ r. unless_refused r (edits (edit.Change made) (entry.Change made))) h;
   accepted = h;
+  plain = tt;
 }
 
 pub IsEntry-change : (c : Catalog) (made : Change) (body : List ℕ) → refusal_of c.tables made ≡ None → IsRecord (entry.Change made)
@@ -65,6 +66,7 @@ IsEdit-load c table header block rows made h =
       outcome = ap (λ r. unless_bad_record r (rows_outcome c table load)) made
           ∙ ap (λ r. unless_row_refused r (edits (edit.Load table rows) load)) h;
       accepted = h;
+      plain = tt;
     }
 
 rows_if : (r : Option (ℕ × RowRefusal)) (given made : Edit) (load e : Record)
@@ -92,7 +94,7 @@ IsEntry-load c table header block e body h there few is =
     let load = entry.Load table header block in
     let same = rows_by (rows_in_block (kinds_in c.tables table) header block) c e table load h.entry h.outcome in
     record {
-      edit = record { entry = load; outcome = h.outcome ∙ ap (edits e) same; accepted = h.accepted };
+      edit = record { entry = load; outcome = h.outcome ∙ ap (edits e) same; accepted = h.accepted; plain = h.plain };
       is_record = few;
       body = is;
       size = IsBody-from_sized load body is (load-sized table header block few);
@@ -106,6 +108,7 @@ IsEdit-schema d s made lawful = record {
   entry = entry.Schema (compact_text d);
   outcome = ap (by_rules d) made;
   accepted = lawful;
+  plain = tt;
 }
 
 schema_by : (read : Result Schema ℕ) (d : Data) (made : Edit) (e : Record) → by_rules d read ≡ edits made e
@@ -129,6 +132,7 @@ IsEntry-schema set d e body h again is_record is =
         entry = text;
         outcome = h.outcome ∙ ap (edits e) (schema_if set d e h.entry h.outcome);
         accepted = h.accepted;
+        plain = h.plain;
       };
       is_record = is_record;
       body = is;

@@ -1,5 +1,5 @@
 -- The records of a journal that were read so far.
-use Rattle.std.proofs.Common.{◌≡◌, ◌≤◌, ◌<◌, ◌+◌, ℕ, List, [], ◌∷◌, ◌++◌, length, drop, Option, Some, None, Result, Ok, Err}
+use Rattle.std.proofs.Common.{◌≡◌, ◌≤◌, ◌<◌, ◌+◌, ℕ, List, [], ◌∷◌, ◌++◌, length, drop, Option, Some, Result, Ok, Err}
 use Rattle.std.proofs.Common.{refl, sym, ap, ◌∙◌, subst, arith}
 use Rattle.svr_edge.specs.Disk.{DiskView, Reads, Stays}
 use Rattle.svr_edge.proofs.DiskLemmas.{Leaves-refl, Stays-trans}
@@ -10,11 +10,13 @@ use Rattle.svr_journal.specs.Gates.{NextAnswers, broken, gate_of, record_of}
 use Rattle.svr_journal.specs.Place.{Place}
 use Rattle.svr_journal.specs.declared.faults.JournalError.{JournalError}
 use Rattle.svr_journal.specs.declared.faults.JournalError.TheVariants as error
-use Rattle.svr_core.specs.Replay.{HasGates, IsAtFault, IsRefusedAt, after_body, replayed}
+use Rattle.svr_core.specs.Pages.{HavePages}
+use Rattle.svr_core.specs.Replay.{HasGates, IsAtFault, IsRefusedAt, replayed}
 use Rattle.svr_core.specs.Kept.{CoreValue, ServesAs}
 use Rattle.svr_core.specs.State.{Served, empty}
-use Rattle.svr_core.specs.Steps.{TakesBody}
+use Rattle.svr_core.specs.Steps.{RefusesBody, TakesBody}
 use Rattle.svr_core.proofs.Replayed.{HasGates-more, after_body-numbered, end_of-more, next_record, replayed-more, replayed-none}
+use Rattle.svr_core.proofs.Standing.{pages-none}
 
 -- the disk is as it was, and no count has fallen
 pub record IsRead (old new : DiskView) : Type 0 where
@@ -46,8 +48,9 @@ IsRead-more old mid new result first second = record {
 pub record SoFar (disk : DiskView) (core : CoreValue) (journal : Place) : Type 0 where
   pub bodies : List (List ℕ)
   pub served : Served
-  pub gives : replayed empty bodies ≡ Some served
+  pub gives : replayed [] empty bodies ≡ Some served
   pub serves : ServesAs core served
+  pub pages : HavePages bodies served.listed
   pub at_end : journal.end ≡ end_of bodies
   pub gates : (bytes : List ℕ) → Reads disk bytes → HasGates bytes 8 bodies journal.end
   pub numbers : core.changes < journal.end
@@ -58,8 +61,9 @@ pub SoFar-none : (disk : DiskView) (core : CoreValue) (journal : Place) → Serv
 SoFar-none disk core journal serves is = rw is (record {
   bodies = [];
   served = empty;
-  gives = replayed-none empty;
+  gives = replayed-none [] empty;
   serves = serves;
+  pages = pages-none;
   at_end = refl;
   gates = λ bytes reads. refl;
   numbers = omega (arith, serves.changes);
@@ -75,18 +79,19 @@ module _ (disk mid : DiskView) (core : CoreValue) (old : Place) (so_far : SoFar 
         (subst (λ (f : Option ℕ). NextAnswers (gate_of (drop old.end bytes)) old.end (Ok f) body) is_some
         (answer bytes (read.stays.content ∙ reads)))
 
-    pub SoFar-more : (next : CoreValue) (new : Place) → TakesBody so_far.served next body
+    pub SoFar-more : (next : CoreValue) (new : Place) → TakesBody so_far.bodies so_far.served next body
         → new ≡ record { end = old.end + 5 + length body; size = old.size } → SoFar disk next new
     SoFar-more next new taken is = rw is (record {
       bodies = so_far.bodies ++ body ∷ [];
       served = taken.next;
-      gives = replayed-more empty so_far.bodies body so_far.served so_far.gives ∙ taken.gives;
+      gives = replayed-more [] empty so_far.bodies body so_far.served so_far.gives ∙ taken.gives;
       serves = taken.serves;
+      pages = taken.pages so_far.pages;
       at_end = ap (λ n. n + 5 + length body) so_far.at_end ∙ sym (end_of-more so_far.bodies body);
       gates = λ bytes reads. HasGates-more bytes 8 so_far.bodies body old.end (so_far.gates bytes reads) (there bytes reads);
       numbers = omega (
         arith,
-        after_body-numbered so_far.served taken.next body taken.gives,
+        after_body-numbered so_far.bodies so_far.served taken.next body taken.gives,
         so_far.numbers,
         so_far.serves.changes,
         taken.serves.changes,
@@ -95,13 +100,13 @@ module _ (disk mid : DiskView) (core : CoreValue) (old : Place) (so_far : SoFar 
     })
 
     -- a record that isn't accepted
-    pub fault_at_record : (bytes : List ℕ) → Reads disk bytes → after_body so_far.served body ≡ None → IsAtFault bytes old.end
+    pub fault_at_record : (bytes : List ℕ) → Reads disk bytes → RefusesBody so_far.bodies so_far.served body → IsAtFault bytes old.end
     fault_at_record bytes reads none = record {
       bodies = so_far.bodies;
       served = so_far.served;
       gates = so_far.gates bytes reads;
       gives = so_far.gives;
-      refused = subst (IsRefusedAt so_far.served) (sym (there bytes reads)) none;
+      refused = subst (IsRefusedAt so_far.bodies so_far.served) (sym (there bytes reads)) none;
     }
 
   -- a gate without a whole record behind it
@@ -111,7 +116,7 @@ module _ (disk mid : DiskView) (core : CoreValue) (old : Place) (so_far : SoFar 
     served = so_far.served;
     gates = so_far.gates bytes reads;
     gives = so_far.gives;
-    refused = subst (IsRefusedAt so_far.served) (sym is) tt;
+    refused = subst (IsRefusedAt so_far.bodies so_far.served) (sym is) tt;
   }
 
   -- the step to the next record tells that

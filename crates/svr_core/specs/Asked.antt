@@ -1,5 +1,5 @@
 -- Which pages a search asks for.
-use Rattle.std.specs.Prelude.{List, ℕ, ◌++◌, Option, Result}
+use Rattle.std.specs.Prelude.{◌≡◌, true, List, ℕ, ◌++◌, Option, Result}
 use Rattle.std.specs.Option.{ForSome}
 use Rattle.svr_index.specs.Asked.{ArePages}
 use Rattle.svr_iter.specs.Asked.{Stops}
@@ -23,5 +23,5 @@ pub record AsksNeeded {R T : Type 0} (told : Option (List ℕ)) (gives : R → P
   pub between : R
   pub in_turn : InTurn gives given old between
   pub stops : Stops fails left between new result
-  pub are_needed : ForSome told (λ bytes. (s : Served) → ServesAs core s → HoldsPosted (pairs_told bytes) s.listed.listing
+  pub are_needed : ForSome told (λ bytes. (s : Served) → ServesAs core s → s.lawful ≡ true → HoldsPosted (pairs_told bytes) s.listed.listing
       → ArePages result (given ++ left) (pages_needed s.listed.listing q.terms q.mode q.k))

@@ -2,7 +2,9 @@ pub mod Answers
 pub mod Asked
 pub mod Edits
 pub mod Kept
+pub mod Merges
 pub mod Outcomes
+pub mod Pages
 pub mod Plans
 pub mod Replay
 pub mod Run

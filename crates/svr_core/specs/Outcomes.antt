@@ -27,13 +27,18 @@ use Rattle.svr_tokens.specs.Tokens.{tokens_of}
 use Rattle.svr_catalog.specs.Catalog.{Catalog}
 use Rattle.svr_core.specs.declared.plan.Edit.{Edit}
 use Rattle.svr_core.specs.declared.plan.Edit.TheVariants as edit
+use Rattle.svr_core.specs.declared.plan.Step.{Step}
+use Rattle.svr_core.specs.declared.plan.Step.TheVariants as step
 use Rattle.svr_core.specs.State.{Served}
 
--- a request is refused, or it searches for the best k documents, or it makes an edit of what is served, and this record is kept of it
+-- a request is refused, or it searches for the best k documents, or it makes an edit of what is served, and this record is kept of it, or
+-- it asks for a step of a merge, or for a whole one
 pub data Outcome : Type 0 where
   refused : Refusal → Outcome
   searches : List (List ℕ) → Mode → ℕ → Outcome
   edits : Edit → Record → Outcome
+  merges : Step → Outcome
+  merges_whole : Outcome
 
 -- ---- a schema
 
@@ -137,7 +142,7 @@ abbrev pub with_catalog : Option Catalog → (Catalog → Outcome) → Outcome
 with_catalog None f = refused refusal.NoSchema
 with_catalog (Some c) f = f c
 
--- what comes of a request with the block that comes with it; merges aren't served as yet
+-- what comes of a request with the block that comes with it
 abbrev pub wanted_outcome : Option Catalog → Wanted → List ℕ → Outcome
 wanted_outcome c (schema d) block = schema_outcome c d
 wanted_outcome c (insert table given) block = with_catalog c (λ c. insert_outcome c table given)
@@ -145,10 +150,10 @@ wanted_outcome c (update table given) block = with_catalog c (λ c. update_outco
 wanted_outcome c (delete table id) block = with_catalog c (λ c. delete_outcome c table id)
 wanted_outcome c (load table header) block = with_catalog c (λ c. load_outcome c table header block)
 wanted_outcome c (search query m k) block = with_catalog c (λ _. search_outcome (tokens_of query) m k)
-wanted_outcome c merge block = refused refusal.UnknownOp
-wanted_outcome c merge_begin block = refused refusal.UnknownOp
-wanted_outcome c (merge_slice terms) block = refused refusal.UnknownOp
-wanted_outcome c merge_publish block = refused refusal.UnknownOp
+wanted_outcome c merge block = with_catalog c (λ _. merges_whole)
+wanted_outcome c merge_begin block = with_catalog c (λ _. merges step.Begin)
+wanted_outcome c (merge_slice terms) block = with_catalog c (λ _. merges (step.Slice terms))
+wanted_outcome c merge_publish block = with_catalog c (λ _. merges step.Publish)
 
 abbrev pub asked_outcome : Option Catalog → Result Wanted Refusal → List ℕ → Outcome
 asked_outcome c (Err why) block = refused why
@@ -173,7 +178,7 @@ text_outcome c (Some d) = schema_outcome c d
 abbrev pub placed_outcome : Catalog → ℕ → Bool → List ℕ → Outcome
 placed_outcome c table header block = if nat_lt table (length c.schema.tables) then block_outcome c table header block else refused refusal.NoTable
 
--- what comes of a record; those of merges aren't served as yet
+-- what comes of a record; those of merges come to edits by what is served
 unfoldable pub entry_outcome : Option Catalog → Record → Outcome
 entry_outcome c (entry.Schema text) = text_outcome c (value_in text)
 entry_outcome c (entry.Change change) = with_catalog c (λ c. change_outcome c change)

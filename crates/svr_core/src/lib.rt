@@ -2,6 +2,7 @@
 #![tactic(auto)]
 
 mod loads;
+mod merges;
 mod plan;
 mod plans;
 mod queries;
@@ -10,6 +11,6 @@ mod replay;
 mod served;
 mod tables;
 
-pub use crate::plan::{Edit, Entry, Plan};
+pub use crate::plan::{Edit, Entry, Plan, Step};
 pub use crate::queries::Query;
 pub use crate::served::Core;

@@ -1,17 +1,19 @@
-ghost use Rattle.std.specs.Prelude.{◌≡◌, ◌≢◌, ◌+◌, ◌<◌, ◌^◌, ℕ, List, None, Some, Err, IfOk, OnOk};
+ghost use Rattle.std.specs.Prelude.{◌≡◌, ◌≢◌, ◌+◌, ◌<◌, ◌≤◌, ◌^◌, ℕ, List, None, Some, Err, IfOk, OnOk};
 ghost use Rattle.svr_edge.specs.Disk.{Reads};
 ghost use Rattle.svr_journal.specs.Causes.{ReadsAlone};
+ghost use Rattle.svr_record.specs.Bodies.{body_of};
 ghost use Rattle.svr_record.specs.Grammar.{record_in};
 ghost use Rattle.svr_record.specs.Limits.{IsRecord};
 ghost use Rattle.svr_core.specs.Kept.{ServesAs};
-ghost use Rattle.svr_core.specs.Replay.{IsAtFault, Replays, after_body};
+ghost use Rattle.svr_core.specs.Replay.{IsAtFault, Replays};
 ghost use Rattle.svr_core.specs.State.{Served};
-ghost use Rattle.svr_core.specs.Steps.{TakesBody, error_at};
+ghost use Rattle.svr_core.specs.Steps.{IsNext, RefusesBody, TakesBody, error_at, is_step};
 
 use crate::served::Core;
 use std::alloc::Global;
 use svr_edge::{Disk, Memory};
 use svr_journal::{Journal, JournalError, ReadAhead};
+use svr_lists::SliceFault;
 use svr_record::{Record, RecordFault, read_record};
 use svr_request::Refusal;
 
@@ -48,6 +50,20 @@ impl From<Refusal> for ReplayFault {
     }
 }
 
+impl From<SliceFault> for ReplayFault {
+    ghost use Rattle.std.specs.Prelude.{◌≡◌};
+    ghost use Rattle.svr_core.specs.Steps.{fault_of_slice};
+
+    ghost from_gives = { λ slice why. why ≡ fault_of_slice slice };
+
+    fn from(slice: SliceFault) -> ReplayFault {
+        match slice {
+            SliceFault::BadSlice => ReplayFault::Refused,
+            SliceFault::Memory => ReplayFault::Memory,
+        }
+    }
+}
+
 impl ReplayFault {
     /// The error of a journal whose record at this gate isn't taken.
     fn at(self, gate: u64) -> JournalError
@@ -63,6 +79,7 @@ impl ReplayFault {
 /// The record that a body says.
 fn record_of(alloc: Global, body: &[u8]) -> Result<Record, ReplayFault>
     ensures found { IfOk result (λ entry. record_in body.now ≡ Some entry) }
+    ensures body { IfOk result (λ entry. body.now ≡ body_of entry) }
     ensures lawful { IfOk result IsRecord }
     ensures none { result ≡ Err ReplayFault.Refused → record_in body.now ≡ None }
 {
@@ -73,28 +90,51 @@ fn record_of(alloc: Global, body: &[u8]) -> Result<Record, ReplayFault>
     }
 }
 
+/// Whether a record is a step of a merge.
+fn is_step(entry: &Record) -> bool
+    ensures { result ≡ is_step entry.now }
+{
+    match entry {
+        Record::Begin | Record::Slice { .. } | Record::Publish => true,
+        Record::Schema(_) | Record::Change(_) | Record::Load { .. } => false,
+    }
+}
+
 impl Core {
-    /// Makes the change of the record that a body says. After `Err` the core is spent.
-    fn take(&mut self, alloc: Global, body: &[u8]) -> Result<(), ReplayFault>
+    /// Makes the change of the record that a body says, which ends at this place. After `Err` the core is spent.
+    fn take(&mut self, alloc: Global, end: u64, body: &[u8]) -> Result<(), ReplayFault>
         requires { self.old.changes + 1 < 2 ^ 64 }
-        ensures taken { (s : Served) → ServesAs self.old s → OnOk result (TakesBody s self.new body.now) }
-        ensures refused { (s : Served) → ServesAs self.old s → result ≡ Err ReplayFault.Refused → after_body s body.now ≡ None }
+        ensures taken { (before : List (List ℕ)) (s : Served) → IsNext before body.now end → ServesAs self.old s
+            → OnOk result (TakesBody before s self.new body.now) }
+        ensures refused { (before : List (List ℕ)) (s : Served) → IsNext before body.now end → ServesAs self.old s
+            → result ≡ Err ReplayFault.Refused → RefusesBody before s body.now }
+        ensures changes { OnOk result (self.new.changes ≤ self.old.changes + 1) }
     {
         let entry = record_of(alloc, body)?;
+        if is_step(&entry) {
+            return self.take_step(alloc, entry, end);
+        }
         let edit = self.edit_of(alloc, entry)?;
-        self.make(alloc, edit)?;
+        self.take_edit(alloc, edit)?;
         Ok(())
     }
 
     /// The same for the record at a gate, which the error names.
-    fn take_at(&mut self, alloc: Global, gate: u64, body: &[u8]) -> Result<(), JournalError>
+    fn take_at(
+        &mut self,
+        alloc: Global,
+        gate: u64,
+        end: u64,
+        body: &[u8],
+    ) -> Result<(), JournalError>
         requires { self.old.changes + 1 < 2 ^ 64 }
-        ensures ok { (s : Served) → ServesAs self.old s → OnOk result (TakesBody s self.new body.now) }
-        ensures fault { (s : Served) (at : ℕ) → ServesAs self.old s → result ≡ Err (JournalError.NotAJournal at)
-            → (at ≡ gate) × (after_body s body.now ≡ None) }
+        ensures ok { (before : List (List ℕ)) (s : Served) → IsNext before body.now end → ServesAs self.old s
+            → OnOk result (TakesBody before s self.new body.now) }
+        ensures fault { (before : List (List ℕ)) (s : Served) (at : ℕ) → IsNext before body.now end → ServesAs self.old s
+            → result ≡ Err (JournalError.NotAJournal at) → (at ≡ gate) × RefusesBody before s body.now }
         ensures device { result ≢ Err JournalError.Device }
     {
-        match self.take(alloc, body) {
+        match self.take(alloc, end, body) {
             Ok(()) => Ok(()),
             Err(fault) => Err(fault.at(gate)),
         }
@@ -118,7 +158,7 @@ impl Core {
         let mut core = Core::empty();
         let mut ahead = ReadAhead::new(alloc);
         while let Some(address) = journal.next(disk, &mut ahead)? {
-            core.take_at(alloc, address - 5, ahead.body())?;
+            core.take_at(alloc, address - 5, journal.end(), ahead.body())?;
         }
         Ok(core)
     }

@@ -1,8 +1,7 @@
-ghost use Rattle.std.specs.Prelude.{◌≡◌, ◌+◌, ◌<◌, ◌≤◌, ◌^◌, length, Some, IfOk, OnOk, OnErr, option_map};
+ghost use Rattle.std.specs.Prelude.{◌≡◌, ◌+◌, ◌<◌, ◌≤◌, ◌^◌, length, true, Some, Err, IfOk, OnOk, OnErr, option_map};
 ghost use Rattle.std.specs.Option.{ForSome, IsSome};
 ghost use Rattle.serde_json.specs.View.{view};
 ghost use Rattle.serde_json.specs.Written.{compact_text};
-ghost use Rattle.svr_catalog.specs.Stands.{Stands};
 ghost use Rattle.svr_iter.specs.Reader.{KeepsReader};
 ghost use Rattle.svr_listing.specs.Kept.{HoldsPosted};
 ghost use Rattle.svr_postpage.specs.Wanted.{pairs_told};
@@ -12,15 +11,16 @@ ghost use Rattle.svr_request.specs.Requests.{seen, seen_or_refused, value_in, wi
 ghost use Rattle.svr_schema.specs.Rules.{IsWritable};
 ghost use Rattle.svr_core.specs.Answers.{answer_in};
 ghost use Rattle.svr_core.specs.Asked.{AsksNeeded};
-ghost use Rattle.svr_core.specs.Edits.{Accepts, edited, relisted, served_with};
+ghost use Rattle.svr_core.specs.Edits.{Accepts, counted, served_with};
 ghost use Rattle.svr_core.specs.Kept.{ServesAs, catalog_of};
+ghost use Rattle.svr_core.specs.Merges.{IsReadyFor, IsUntaken, MayCome};
 ghost use Rattle.svr_core.specs.Outcomes.{entry_outcome, outcome_over, schema_outcome, text_outcome, wanted_outcome};
 ghost use Rattle.svr_core.specs.Plans.{MayAsk, Plans};
 ghost use Rattle.svr_core.specs.State.{Served, empty};
-ghost use Rattle.svr_core.specs.Steps.{Edits};
+ghost use Rattle.svr_core.specs.Steps.{Edits, FollowsEdit, core_of};
 
 use crate::loads::{edit_placed, plan_load};
-use crate::plan::{Edit, Entry, Plan};
+use crate::plan::{Edit, Entry, Plan, Step};
 use crate::plans::{edit_change, plan_delete, plan_insert, plan_update};
 use crate::queries::{Query, query_of};
 use crate::refusals::refused_schema;
@@ -31,6 +31,7 @@ use std::sync::ledger::{Blank, Ledger};
 use svr_catalog::Catalog;
 use svr_edge::{Items, Memory};
 use svr_iter::ScanFault;
+use svr_lists::SliceFault;
 use svr_postpage::PageReader;
 use svr_record::{Record, write_schema};
 use svr_request::{Answer, Refusal, Request, SchemaValue};
@@ -40,7 +41,7 @@ use svr_steps::Steps;
 /// What is served.
 #[derive(Drop)]
 pub struct Core {
-    catalog: Option<Catalog>,
+    pub(crate) catalog: Option<Catalog>,
     changes: u64,
 }
 
@@ -91,14 +92,11 @@ impl Core {
     {
         match (request, &self.catalog) {
             (Request::Schema(schema), _) => self.plan_schema(alloc, &schema),
-            (
-                Request::Merge
-                | Request::MergeBegin
-                | Request::MergeSlice { .. }
-                | Request::MergePublish,
-                _,
-            ) => Err(Refusal::UnknownOp),
             (_, None) => Err(Refusal::NoSchema),
+            (Request::Merge, Some(_)) => Ok(Plan::WholeMerge),
+            (Request::MergeBegin, Some(_)) => Ok(Plan::Merge(Step::Begin)),
+            (Request::MergeSlice { terms }, Some(_)) => Ok(Plan::Merge(Step::Slice(terms))),
+            (Request::MergePublish, Some(_)) => Ok(Plan::Merge(Step::Publish)),
             (Request::Insert { table, row }, Some(catalog)) => {
                 plan_insert(alloc, catalog, table.as_str(), row)
             }
@@ -179,17 +177,38 @@ impl Core {
         }
     }
 
-    /// Makes an edit, and counts it. After `Err` the core is spent: of the catalog nothing is said.
+    /// Makes an edit, and counts it where it is a change. After `Err` the core is spent: of the catalog nothing is said.
     pub fn make(&mut self, alloc: Global, edit: Edit) -> Result<(), Memory>
         requires accepted { Accepts (catalog_of self.old) edit }
+        requires may_come { MayCome self.old edit }
         requires changes { self.old.changes + 1 < 2 ^ 64 }
-        ensures made { (s : Served) → ServesAs self.old s → OnOk result (ServesAs self.new (served_with s edit)) }
-        ensures changes { OnOk result (self.new.changes ≡ self.old.changes + 1) }
+        ensures made { (s : Served) → ServesAs self.old s → IsReadyFor s edit → OnOk result (ServesAs self.new (served_with s edit)) }
+        ensures set { OnOk result (IsSome (catalog_of self.new)) }
+        ensures changes { OnOk result (self.new.changes ≡ self.old.changes + counted edit) }
         ensures spent { OnErr result (self.new.changes ≡ self.old.changes) }
     {
+        match self.take_edit(alloc, edit) {
+            Ok(()) => Ok(()),
+            Err(SliceFault::BadSlice) => unreachable!(),
+            Err(SliceFault::Memory) => Err(Memory),
+        }
+    }
+
+    /// Makes an edit, unless it is a slice that may not come next. After `Err` the core is spent.
+    pub(crate) fn take_edit(&mut self, alloc: Global, edit: Edit) -> Result<(), SliceFault>
+        requires accepted { Accepts (catalog_of self.old) edit }
+        requires changes { self.old.changes + 1 < 2 ^ 64 }
+        ensures made { (s : Served) → ServesAs self.old s → IsReadyFor s edit → OnOk result (ServesAs self.new (served_with s edit)) }
+        ensures came { OnOk result (MayCome self.old edit) }
+        ensures bad { result ≡ Err SliceFault.BadSlice → IsUntaken self.old edit }
+        ensures set { OnOk result (IsSome (catalog_of self.new)) }
+        ensures changes { OnOk result (self.new.changes ≡ self.old.changes + counted edit) }
+        ensures spent { OnErr result (self.new.changes ≡ self.old.changes) }
+    {
+        let count = edit.counted();
         let catalog = edited::<Brand>(alloc, self.catalog.take(), edit, Blank::new(1))?;
         self.catalog = Some(catalog);
-        self.changes += 1;
+        self.changes += count;
         Ok(())
     }
 
@@ -206,7 +225,7 @@ impl Core {
         requires query { MayAsk query.now }
         requires ready { R.ready reader.old }
         ensures answer { IfOk result (λ answer. ForSome (R.told reader.old) (λ bytes. (s : Served) → ServesAs self.now s
-            → HoldsPosted (pairs_told bytes) s.listed.listing → answer ≡ answer_in s query.now.terms query.now.mode query.now.k)) }
+            → s.lawful ≡ true → HoldsPosted (pairs_told bytes) s.listed.listing → answer ≡ answer_in s query.now.terms query.now.mode query.now.k)) }
         ensures short { IfOk result (λ answer. length answer.hits ≤ 1000) }
         ensures asks { AsksNeeded (R.told reader.old) R.gives R.fails self.now query.now reader.old reader.new result }
         ensures reader { KeepsReader R.told R.ready R.faults reader.old reader.new result }
@@ -235,21 +254,29 @@ fn edited<L: Ledger>(
     catalog: Option<Catalog>,
     edit: Edit,
     blank: Blank,
-) -> Result<Catalog, Memory>
+) -> Result<Catalog, SliceFault>
     requires accepted { Accepts (option_map (λ v. v.catalog) catalog) edit }
     requires name { blank.name ≡ L.name }
     requires parts { blank.parts ≡ L.parts }
     requires some { 0 < blank.parts }
-    ensures { IfOk result (λ after. (s : Served) → (option_map (λ v. v.catalog) catalog ≡ s.catalog)
-        → ForSome catalog (λ v. Stands v s.listed) → (edited s.catalog edit ≡ Some after.catalog) × Stands after (relisted s.catalog s.listed edit)) }
+    ensures follows { FollowsEdit catalog edit result }
+    ensures came { OnOk result (MayCome (core_of catalog) edit) }
+    ensures bad { result ≡ Err SliceFault.BadSlice → IsUntaken (core_of catalog) edit }
 {
     let mut steps = Steps::<L>::new(blank);
     match (edit, catalog) {
-        (Edit::Schema(schema), _) => Catalog::new(alloc, schema),
-        (Edit::Change(change), Some(catalog)) => catalog.with_change(alloc, change, &mut steps),
+        (Edit::Schema(schema), _) => Ok(Catalog::new(alloc, schema)?),
+        (Edit::Change(change), Some(catalog)) => Ok(catalog.with_change(
+            alloc, change, &mut steps,
+        )?),
         (Edit::Load { table, rows }, Some(catalog)) => {
-            catalog.with_rows(alloc, table, rows.into_vec(), &mut steps)
+            Ok(catalog.with_rows(alloc, table, rows.into_vec(), &mut steps)?)
         }
+        (Edit::Begin, Some(catalog)) => Ok(catalog.with_merge(alloc)?),
+        (Edit::Slice { terms, pages, at }, Some(catalog)) => {
+            catalog.with_slice(alloc, terms.as_slice(), pages.as_slice(), at)
+        }
+        (Edit::Publish, Some(catalog)) => Ok(catalog.published(alloc, &mut steps)?),
         (_, None) => unreachable!(),
     }
 }

@@ -4,43 +4,62 @@ use Rattle.std.proofs.Common.{refl, sym, ap, ◌∙◌, subst, arith, append_ass
 use Rattle.std.proofs.lemmas.Bool.{false≢true}
 use Rattle.std.proofs.lemmas.List.{take_all}
 use Rattle.svr_core.specs.Replay.{replayed}
-use Rattle.svr_core.specs.Run.{IsRun, Turn, closes, is_in_doubt, reads_of, records_of, state_in_end}
-use Rattle.svr_core.specs.State.{Served, State}
-use Rattle.svr_edge.specs.Disk.{DiskView, IsDisk, IsImage, Leaves}
-use Rattle.svr_edge.proofs.DiskLemmas.{Leaves-more, Leaves-refl, Leaves-trans, images_after}
-use Rattle.svr_journal.specs.File.{StandsFor, StandsForSome}
+use Rattle.svr_core.specs.Run.{IsRun, Turn, closes, doubtful, is_in_doubt, kept, reads_of, records_of, state_in_end, state_then}
+use Rattle.svr_core.specs.State.{IsWithMerge, Served, State}
+use Rattle.svr_core.proofs.Recovering.{IsWithMerge-trans, lawful_ahead, replayed-ahead}
+use Rattle.svr_core.proofs.Replayed.{replayed-none}
+use Rattle.svr_core.proofs.Runs.{IsTurn-by, bodies_in_end, going_is_sure, reads_of-more, records_of-more, replayed-append, replayed-first, state_in_end-more}
+use Rattle.svr_edge.specs.Disk.{DiskView, IsImage, Leaves}
+use Rattle.svr_edge.proofs.DiskLemmas.{Leaves-more, Leaves-refl, Leaves-trans}
+use Rattle.svr_journal.specs.File.{StandsForSome}
 use Rattle.svr_pages.specs.Stretch.{with_reads}
 use Rattle.svr_pages.proofs.Stretching.{with_reads-append, with_reads-none}
 use Rattle.svr_request.specs.declared.reply.Reply.{Reply}
 use Rattle.svr_request.specs.Requests.{Submitted}
-use Rattle.svr_store.specs.Store.{Keeps, Serves, StoreValue}
+use Rattle.svr_store.specs.Store.{Keeps, KeepsState, Serves, StoreValue}
 use Rattle.svr_store.specs.Submitting.{Submits}
-use Rattle.svr_serve.specs.Program.{GoesOn, doubtful, kept}
-use Rattle.svr_serve.specs.Ran.{Stores}
+use Rattle.svr_store.proofs.Kept.{some_behind, some_more, some_of_none}
+use Rattle.svr_serve.specs.Program.{GoesOn}
+use Rattle.svr_serve.specs.Ran.{GivesAgain, Stores}
 use Rattle.svr_serve.specs.Turning.{IsIdle}
-use Rattle.svr_serve.proofs.Runs.{GoesOn-last, GoesOn-more, IsRun-more, IsRun-none, IsTurn-by, bodies_in_end, doubtful-more, doubts_none}
-use Rattle.svr_serve.proofs.Runs.{going_is_sure, kept-more, kept_all, reads_of-more, records_of-more, replayed-append, replayed-first, replayed-none, state_in_end-more, take-more}
+use Rattle.svr_serve.proofs.Runs.{GoesOn-last, GoesOn-more, IsRun-more, IsRun-none, doubtful-more, doubts_none, kept-more, kept_all, take-more}
 
 -- the turns so far, none of which closed the store
 pub record Kept (opening : State) (turns : List Turn) (start now : DiskView) (store : StoreValue) : Type 0 where
-  pub run : IsRun (Keeps start opening.bodies) opening turns
+  pub run : IsRun (KeepsState start opening) opening turns
   pub trace : now.trace ≡ with_reads start.trace (reads_of turns)
   pub going : GoesOn turns
   pub serves : Serves store (state_in_end opening turns)
   pub any_moment : Keeps start opening.bodies → Leaves start now (StandsForSome opening.bodies (records_of turns))
   pub keeps : Keeps start opening.bodies → Keeps now (opening.bodies ++ records_of turns)
-  pub again : (n : ℕ) → replayed opening.served (records_of (take n turns)) ≡ Some (state_in_end opening (take n turns)).served
+  -- each slice was the next one of its merge, where all were at the opening
+  pub lawful : KeepsState start opening → (state_in_end opening turns).served.lawful ≡ true
+  pub again : (n : ℕ) → GivesAgain opening (take n turns)
+
+-- the records of all turns
+whole : (opening : State) (turns : List Turn) → ((n : ℕ) → GivesAgain opening (take n turns)) → GivesAgain opening turns
+whole opening turns again = subst (GivesAgain opening) (take_all (length turns) turns (omega arith)) (again (length turns))
+
+-- the first records of those that give something give something
+first_give : (opening : State) (turns : List Turn) (x : Served) → replayed opening.bodies opening.served (records_of turns) ≡ Some x
+    → (first others : List (List ℕ)) → records_of turns ≡ first ++ others
+    → (served : Served) × (replayed opening.bodies opening.served first ≡ Some served)
+first_give opening turns x gives first others split =
+    let p = replayed-first opening.bodies opening.served x first others
+    (subst (λ (bs : List (List ℕ)). replayed opening.bodies opening.served bs ≡ Some x) split gives) in
+    (p.0, p.1)
 
 pub Kept-start : (opening : State) (start : DiskView) (store : StoreValue) → Serves store opening → Kept opening [] start start store
 Kept-start opening start store serves = record {
-  run = IsRun-none (Keeps start opening.bodies) opening;
+  run = IsRun-none (KeepsState start opening) opening;
   trace = sym (with_reads-none start.trace);
   going = tt;
   serves = serves;
   any_moment = λ keeps. Leaves-refl start (StandsForSome opening.bodies []);
   keeps = λ keeps. subst (λ (bs : List (List ℕ)). Keeps start bs) (sym (append-nil opening.bodies)) keeps;
-  again = λ n. subst (λ (ts : List Turn). replayed opening.served (records_of ts) ≡ Some (state_in_end opening ts).served)
-      (sym (take_all n [] (omega arith))) (replayed-none opening.served);
+  lawful = λ kept. kept.lawful;
+  again = λ n. subst (GivesAgain opening) (sym (take_all n [] (omega arith)))
+      (record { next = opening.served; gives = replayed-none opening.bodies opening.served; same = inr refl });
 }
 
 pub Kept-idle : (opening : State) (turns : List Turn) (start old new : DiskView) (store then : StoreValue) → Kept opening turns start old store
@@ -52,45 +71,8 @@ Kept-idle opening turns start old new store then k idle same = record {
   serves = subst (λ (v : StoreValue). Serves v (state_in_end opening turns)) (sym same) k.serves;
   any_moment = λ keeps. Leaves-more start old new (StandsForSome opening.bodies (records_of turns)) (k.any_moment keeps) idle.images;
   keeps = λ keeps. idle.keeps (opening.bodies ++ records_of turns) (k.keeps keeps);
+  lawful = k.lawful;
   again = k.again;
-}
-
--- ---- spans of records
-
--- some of the first are some of all
-some_more : (bodies xs ys : List (List ℕ)) (image : List ℕ) → StandsForSome bodies xs image → StandsForSome bodies (xs ++ ys) image
-some_more bodies xs ys image s = record {
-  taken = s.taken;
-  left_out = s.left_out ++ ys;
-  split = ap (λ (zs : List (List ℕ)). zs ++ ys) s.split ∙ append_assoc s.taken s.left_out ys;
-  stands = s.stands;
-}
-
--- all of the first and some of the others are some of all
-some_behind : (bodies xs ys : List (List ℕ)) (image : List ℕ) → StandsForSome (bodies ++ xs) ys image → StandsForSome bodies (xs ++ ys) image
-some_behind bodies xs ys image s = record {
-  taken = xs ++ s.taken;
-  left_out = s.left_out;
-  split = ap (λ (zs : List (List ℕ)). xs ++ zs) s.split ∙ sym (append_assoc xs s.taken s.left_out);
-  stands = subst (λ (zs : List (List ℕ)). StandsFor image zs) (append_assoc bodies xs s.taken) s.stands;
-}
-
--- all, and none of no more
-some_of_none : (bodies : List (List ℕ)) (image : List ℕ) → StandsFor image bodies → StandsForSome bodies [] image
-some_of_none bodies image stands = record {
-  taken = [];
-  left_out = [];
-  split = refl;
-  stands = subst (λ (zs : List (List ℕ)). StandsFor image zs) (sym (append-nil bodies)) stands;
-}
-
--- none of them
-some_left_out : (bodies xs : List (List ℕ)) (image : List ℕ) → StandsFor image bodies → StandsForSome bodies xs image
-some_left_out bodies xs image stands = record {
-  taken = [];
-  left_out = xs;
-  split = refl;
-  stands = subst (λ (zs : List (List ℕ)). StandsFor image zs) (sym (append-nil bodies)) stands;
 }
 
 -- ---- one turn more
@@ -108,12 +90,20 @@ module _ (opening : State) (turns : List Turn) (start old new : DiskView) (store
   before : (state_in_end opening turns).bodies ≡ opening.bodies ++ records_of turns
   before = bodies_in_end opening turns
 
-  kept_before : Keeps start opening.bodies → Keeps old (state_in_end opening turns).bodies
-  kept_before keeps = subst (λ (bs : List (List ℕ)). Keeps old bs) (sym before) (k.keeps keeps)
+  keeps_before : Keeps start opening.bodies → Keeps old (state_in_end opening turns).bodies
+  keeps_before keeps = subst (λ (bs : List (List ℕ)). Keeps old bs) (sym before) (k.keeps keeps)
 
-  pub run_more : IsRun (Keeps start opening.bodies) opening all
-  run_more = IsRun-more (Keeps start opening.bodies) opening turns one.turn k.run k.going
-      (IsTurn-by (Keeps old (state_in_end opening turns).bodies) (Keeps start opening.bodies) kept_before (state_in_end opening turns) one.turn one.is)
+  kept_before : KeepsState start opening → KeepsState old (state_in_end opening turns)
+  kept_before kept = record { keeps = keeps_before kept.keeps; lawful = k.lawful kept }
+
+  pub run_more : IsRun (KeepsState start opening) opening all
+  run_more = IsRun-more (KeepsState start opening) opening turns one.turn k.run k.going
+      (IsTurn-by (KeepsState old (state_in_end opening turns)) (KeepsState start opening) kept_before (state_in_end opening turns) one.turn one.is)
+
+  -- each slice was the next one of its merge
+  lawful_more : closes reply ≡ false → KeepsState start opening → (state_in_end opening all).served.lawful ≡ true
+  lawful_more going kept = ap (λ (s : State). s.served.lawful) (state_in_end-more opening turns one.turn)
+      ∙ sym (lawful_ahead one.next (state_then (state_in_end opening turns) one.turn).served (one.same going)) ∙ one.lawful (kept_before kept)
 
   moment_more : Keeps start opening.bodies → Leaves start new (StandsForSome opening.bodies (records_of all))
   moment_more keeps =
@@ -121,7 +111,7 @@ module _ (opening : State) (turns : List Turn) (start old new : DiskView) (store
       (Leaves-trans start old new (StandsForSome opening.bodies (records_of turns))
       (StandsForSome (opening.bodies ++ records_of turns) one.turn.added)
       (StandsForSome opening.bodies (records_of turns ++ one.turn.added)) (k.any_moment keeps)
-      (subst (λ (bs : List (List ℕ)). Leaves old new (StandsForSome bs one.turn.added)) before (one.any_moment (kept_before keeps)))
+      (subst (λ (bs : List (List ℕ)). Leaves old new (StandsForSome bs one.turn.added)) before (one.any_moment (keeps_before keeps)))
       (some_more opening.bodies (records_of turns) one.turn.added) (some_behind opening.bodies (records_of turns) one.turn.added))
 
   bodies_more : (state_in_end opening turns).bodies ++ one.turn.added ≡ opening.bodies ++ records_of all
@@ -130,27 +120,35 @@ module _ (opening : State) (turns : List Turn) (start old new : DiskView) (store
 
   -- its records where no write failed
   keeps_more : Keeps start opening.bodies → is_in_doubt reply ≡ false → Keeps new (opening.bodies ++ records_of all)
-  keeps_more keeps sure = subst (λ (bs : List (List ℕ)). Keeps new bs) bodies_more (one.keeps (kept_before keeps) sure)
+  keeps_more keeps sure = subst (λ (bs : List (List ℕ)). Keeps new bs) bodies_more (one.keeps (keeps_before keeps) sure)
 
   -- all records, read again
-  again_before : replayed opening.served (records_of turns) ≡ Some (state_in_end opening turns).served
-  again_before =
-      subst (λ (ts : List Turn). replayed opening.served (records_of ts) ≡ Some (state_in_end opening ts).served)
-      (take_all (length turns) turns (omega arith)) (k.again (length turns))
+  abbrev Ahead : Type 0
+  Ahead = (y : Served) × (replayed opening.bodies opening.served (records_of all) ≡ Some y) × IsWithMerge y one.next
 
-  replays_all : replayed opening.served (records_of all) ≡ Some one.next
+  replays_all : Ahead
   replays_all =
-      subst (λ (bs : List (List ℕ)). replayed opening.served bs ≡ Some one.next) (sym (records_of-more turns one.turn))
-      (replayed-append opening.served (state_in_end opening turns).served one.next (records_of turns) one.turn.added again_before one.replays)
+      let front = whole opening turns k.again in
+      let on = replayed-ahead (opening.bodies ++ records_of turns) front.next (state_in_end opening turns).served one.next one.turn.added front.same
+      (subst (λ (bs : List (List ℕ)). replayed bs (state_in_end opening turns).served one.turn.added ≡ Some one.next) before one.replays) in (
+        on.0,
+        subst (λ (bs : List (List ℕ)). replayed opening.bodies opening.served bs ≡ Some on.0) (sym (records_of-more turns one.turn))
+            (replayed-append opening.bodies opening.served front.next on.0 (records_of turns) one.turn.added front.gives on.1.0),
+        on.1.1,
+      )
 
-  abbrev IsAgain : List Turn → Type 0
-  IsAgain ts = replayed opening.served (records_of ts) ≡ Some (state_in_end opening ts).served
+  replays_more : closes reply ≡ false → GivesAgain opening all
+  replays_more going = record {
+    next = replays_all.0;
+    gives = replays_all.1;
+    same = subst (λ (s : State). IsWithMerge replays_all.0 s.served) (sym (state_in_end-more opening turns one.turn))
+        (IsWithMerge-trans replays_all.0 one.next (state_then (state_in_end opening turns) one.turn).served replays_all.2 (one.same going));
+  }
 
-  again_more : closes reply ≡ false → (n : ℕ) → IsAgain (take n all)
+  again_more : closes reply ≡ false → (n : ℕ) → GivesAgain opening (take n all)
   again_more going n = elim (take-more n turns one.turn) [
-    | inl same ↦ subst IsAgain (sym same) (k.again n)
-    | inr whole ↦ subst IsAgain (sym whole) (replays_all ∙ ap (λ x. Some x) (one.same going)
-        ∙ ap (λ (s : State). Some s.served) (sym (state_in_end-more opening turns one.turn)))
+    | inl same ↦ subst (GivesAgain opening) (sym same) (k.again n)
+    | inr every ↦ subst (GivesAgain opening) (sym every) (replays_more going)
   ]
 
   pub Kept-more : closes reply ≡ false → Kept opening all start new then
@@ -161,78 +159,63 @@ module _ (opening : State) (turns : List Turn) (start old new : DiskView) (store
     serves = subst (λ (s : State). Serves then s) (sym (state_in_end-more opening turns one.turn)) (one.serves going);
     any_moment = moment_more;
     keeps = λ keeps. keeps_more keeps (going_is_sure reply going);
+    lawful = lawful_more going;
     again = again_more going;
   }
 
   -- ---- a turn that closed the store
 
-  again_closed : closes reply ≡ true → (n : ℕ) → GoesOn (take n all) → IsAgain (take n all)
+  again_closed : closes reply ≡ true → (n : ℕ) → GoesOn (take n all) → GivesAgain opening (take n all)
   again_closed closed n going = elim (take-more n turns one.turn) [
-    | inl same ↦ subst IsAgain (sym same) (k.again n)
-    | inr whole ↦
-        let open_end = GoesOn-last turns one.turn (subst GoesOn whole going) in
+    | inl same ↦ subst (GivesAgain opening) (sym same) (k.again n)
+    | inr every ↦
+        let open_end = GoesOn-last turns one.turn (subst GoesOn every going) in
         absurd (false≢true (sym open_end ∙ ap closes one.told ∙ closed))
   ]
 
-  lawful_all : (first others : List (List ℕ)) → records_of all ≡ first ++ others
-      → (served : Served) × (replayed opening.served first ≡ Some served)
-  lawful_all first others split =
-      let p = replayed-first opening.served one.next first others
-      (subst (λ (bs : List (List ℕ)). replayed opening.served bs ≡ Some one.next) split replays_all) in
-      (p.0, p.1)
+  kept_last : flat_map kept all ≡ records_of turns ++ kept one.turn
+  kept_last = kept-more turns one.turn ∙ ap (λ (bs : List (List ℕ)). bs ++ kept one.turn) (kept_all turns k.going)
 
-  kept_sure : is_in_doubt one.turn.reply ≡ false → flat_map kept all ≡ records_of all
-  kept_sure sure = kept-more turns one.turn ∙ ap (λ (bs : List (List ℕ)). bs ++ kept one.turn) (kept_all turns k.going)
-      ∙ (rw sure (sym (records_of-more turns one.turn)))
-
-  doubts_sure : is_in_doubt one.turn.reply ≡ false → flat_map doubtful all ≡ []
-  doubts_sure sure = doubtful-more turns one.turn ∙ ap (λ (bs : List (List ℕ)). bs ++ doubtful one.turn) (doubts_none turns k.going)
-      ∙ (rw sure refl)
-
-  kept_unsure : is_in_doubt one.turn.reply ≡ true → flat_map kept all ≡ records_of turns
-  kept_unsure unsure = kept-more turns one.turn ∙ ap (λ (bs : List (List ℕ)). bs ++ kept one.turn) (kept_all turns k.going)
-      ∙ (rw unsure (append-nil (records_of turns)))
-
-  doubts_unsure : is_in_doubt one.turn.reply ≡ true → flat_map doubtful all ≡ one.turn.added
-  doubts_unsure unsure = doubtful-more turns one.turn ∙ ap (λ (bs : List (List ℕ)). bs ++ doubtful one.turn) (doubts_none turns k.going)
-      ∙ (rw unsure refl)
+  doubts_last : flat_map doubtful all ≡ doubtful one.turn
+  doubts_last = doubtful-more turns one.turn ∙ ap (λ (bs : List (List ℕ)). bs ++ doubtful one.turn) (doubts_none turns k.going)
 
   abbrev IsLeft : List ℕ → List (List ℕ) → List (List ℕ) → Type 0
   IsLeft image keep doubts = StandsForSome (opening.bodies ++ keep) doubts image
 
   -- no write failed
   left_sure : Keeps start opening.bodies → (image : List ℕ) → IsImage new image → is_in_doubt one.turn.reply ≡ false
-      → IsLeft image (flat_map kept all) (flat_map doubtful all)
-  left_sure keeps image left sure =
-      subst (λ (bs : List (List ℕ)). IsLeft image bs (flat_map doubtful all)) (sym (kept_sure sure))
-      (subst (λ (bs : List (List ℕ)). IsLeft image (records_of all) bs) (sym (doubts_sure sure))
+      → IsLeft image (records_of turns ++ kept one.turn) (doubtful one.turn)
+  left_sure keeps image left sure = rw sure
+      (subst (λ (bs : List (List ℕ)). IsLeft image bs []) (records_of-more turns one.turn)
       (some_of_none (opening.bodies ++ records_of all) image
       ((keeps_more keeps (ap is_in_doubt (sym one.told) ∙ sure)).safe image left)))
 
   -- one did
-  left_unsure : IsDisk new → Keeps start opening.bodies → (image : List ℕ) → IsImage new image → is_in_doubt one.turn.reply ≡ true
-      → IsLeft image (flat_map kept all) (flat_map doubtful all)
-  left_unsure laws keeps image left unsure =
-      let span = subst (λ (bs : List (List ℕ)). Leaves old new (StandsForSome bs one.turn.added)) before (one.any_moment (kept_before keeps)) in
-      subst (λ (bs : List (List ℕ)). IsLeft image bs (flat_map doubtful all)) (sym (kept_unsure unsure))
-      (subst (λ (bs : List (List ℕ)). IsLeft image (records_of turns) bs) (sym (doubts_unsure unsure))
-      (elim (images_after old new (StandsForSome (opening.bodies ++ records_of turns) one.turn.added) laws span image left) [
-        | inl first ↦ some_left_out (opening.bodies ++ records_of turns) one.turn.added image ((k.keeps keeps).safe image first)
-        | inr some ↦ some
-      ]))
+  left_unsure : Keeps start opening.bodies → (image : List ℕ) → IsImage new image → is_in_doubt one.turn.reply ≡ true
+      → IsLeft image (records_of turns ++ kept one.turn) (doubtful one.turn)
+  left_unsure keeps image left unsure =
+      subst (λ (bs : List (List ℕ)). StandsForSome bs (doubtful one.turn) image)
+      (ap (λ (bs : List (List ℕ)). bs ++ kept one.turn) before ∙ append_assoc opening.bodies (records_of turns) (kept one.turn))
+      (one.in_doubt (keeps_before keeps) (ap is_in_doubt (sym one.told) ∙ unsure) image left)
 
   by_doubt : (b : Bool) (P : Type 0) → (b ≡ false → P) → (b ≡ true → P) → P
   by_doubt false P f g = f refl
   by_doubt true P f g = g refl
 
-  pub Stores-closed : IsDisk new → closes reply ≡ true → Stores opening all start new
-  Stores-closed laws closed = record {
+  left_all : Keeps start opening.bodies → (image : List ℕ) → IsImage new image → IsLeft image (flat_map kept all) (flat_map doubtful all)
+  left_all keeps image left =
+      subst (λ (bs : List (List ℕ)). IsLeft image bs (flat_map doubtful all)) (sym kept_last)
+      (subst (λ (bs : List (List ℕ)). IsLeft image (records_of turns ++ kept one.turn) bs) (sym doubts_last)
+      (by_doubt (is_in_doubt one.turn.reply) (IsLeft image (records_of turns ++ kept one.turn) (doubtful one.turn))
+      (left_sure keeps image left) (left_unsure keeps image left)))
+
+  pub Stores-closed : closes reply ≡ true → Stores opening all start new
+  Stores-closed closed = record {
     trace = trace_more;
     any_moment = moment_more;
-    in_end = λ keeps image left. by_doubt (is_in_doubt one.turn.reply) (IsLeft image (flat_map kept all) (flat_map doubtful all))
-        (left_sure keeps image left) (left_unsure laws keeps image left);
+    in_end = left_all;
     again = again_closed closed;
-    lawful = lawful_all;
+    lawful = first_give opening all replays_all.0 replays_all.1;
   }
 
 -- turns that didn't close the store
@@ -246,10 +229,7 @@ Stores-going opening turns start now store k = record {
       (subst (λ (bs : List (List ℕ)). StandsForSome (opening.bodies ++ records_of turns) bs image) (sym (doubts_none turns k.going))
       (some_of_none (opening.bodies ++ records_of turns) image ((k.keeps keeps).safe image left)));
   again = λ n going. k.again n;
-  lawful = λ first others split.
-      let whole = subst (λ (ts : List Turn). replayed opening.served (records_of ts) ≡ Some (state_in_end opening ts).served)
-      (take_all (length turns) turns (omega arith)) (k.again (length turns)) in
-      let p = replayed-first opening.served (state_in_end opening turns).served first others
-      (subst (λ (bs : List (List ℕ)). replayed opening.served bs ≡ Some (state_in_end opening turns).served) split whole) in
-      (p.0, p.1);
+  lawful =
+      let all = whole opening turns k.again in
+      first_give opening turns all.next all.gives;
 }

@@ -1,9 +1,11 @@
 -- A disk that was opened, and turns behind it.
-use Rattle.std.proofs.Common.{◌≡◌, ◌⊎◌, ℕ, zero, suc, ◌<◌, List, [], ◌∷◌, ◌++◌, inl, inr, take, drop, Some, refl, sym, ◌∙◌, subst}
+use Rattle.std.proofs.Common.{◌≡◌, ◌⊎◌, ℕ, zero, suc, ◌<◌, List, [], ◌∷◌, ◌++◌, inl, inr, take, drop, Some, refl, sym, ap, ◌∙◌, subst}
 use Rattle.std.proofs.Common.{arith}
-use Rattle.svr_core.specs.Replay.{HasGates, IsRefusedAt, replayed}
+use Rattle.svr_core.specs.Replay.{HasGates, IsRefusedAt, recovered, replayed}
 use Rattle.svr_core.specs.Run.{Turn, records_of, state_in_end}
-use Rattle.svr_core.specs.State.{Served, State, empty}
+use Rattle.svr_core.specs.State.{Served, State, settled}
+use Rattle.svr_core.proofs.Recovering.{recovered-behind, settled_ahead}
+use Rattle.svr_core.proofs.Runs.{IsRun-by}
 use Rattle.svr_edge.specs.Disk.{DiskView, IsDisk, IsTornImage, Leaves, Reads, Stays}
 use Rattle.svr_edge.proofs.DiskLemmas.{Leaves-trans, Leaves-weaker}
 use Rattle.svr_journal.specs.File.{StandsForSome, magic}
@@ -12,19 +14,18 @@ use Rattle.svr_journal.specs.Opening.{AnyRose, opened_bytes}
 use Rattle.svr_journal.specs.declared.faults.JournalError.{JournalError}
 use Rattle.svr_journal.specs.declared.faults.JournalError.TheVariants.{Device, NotAJournal, Memory}
 use Rattle.svr_serve.specs.Layout.{ending_of_error}
-use Rattle.svr_store.specs.Opening.{IsNoJournal, Opens, StoodFor}
-use Rattle.svr_store.specs.Store.{Keeps, StoreValue}
+use Rattle.svr_store.specs.Opening.{IsNoJournal, Opens, StoodForState}
+use Rattle.svr_store.specs.Store.{Keeps, KeepsState, StoreValue}
 use Rattle.svr_serve.specs.declared.ending.Ending.{Ending}
 use Rattle.svr_serve.specs.Program.{IsHalfMade, Recovers, Streams, Survives}
 use Rattle.svr_serve.specs.Ran.{Carries, OpeningStops, Ran, Serving, Stores}
-use Rattle.svr_serve.proofs.Runs.{IsRun-by, replayed-append}
 
 -- ---- a new journal
 
 -- its first gate is closed
 shut_first : (at : ℕ) (bodies : List (List ℕ)) (served : Served) → HasGates (magic ++ 0 ∷ []) 8 bodies at
-    → IsRefusedAt served (gate_of (drop at (magic ++ 0 ∷ []))) → ⊥
-shut_first at [] served gates refused = subst (λ n. IsRefusedAt served (gate_of (drop n (magic ++ 0 ∷ [])))) (sym gates) refused
+    → IsRefusedAt bodies served (gate_of (drop at (magic ++ 0 ∷ []))) → ⊥
+shut_first at [] served gates refused = subst (λ n. IsRefusedAt [] served (gate_of (drop n (magic ++ 0 ∷ [])))) (sym gates) refused
 shut_first at (body ∷ bodies) served gates refused = cc
 
 is_journal : (at : ℕ) → IsNoJournal (magic ++ 0 ∷ []) at → ⊥
@@ -60,16 +61,20 @@ half_made old new stays torn = by_size old.size (Leaves old new (IsHalfMade old)
 
 -- ---- the records
 
-module _ (opening : State) (turns : List Turn) (gives : replayed empty opening.bodies ≡ Some opening.served) where
-  behind : (first : List (List ℕ)) (x : Served) → replayed opening.served first ≡ Some x → replayed empty (opening.bodies ++ first) ≡ Some x
-  behind first x is = replayed-append empty opening.served x opening.bodies first gives is
+module _ (opening : State) (turns : List Turn) (gives : recovered opening.bodies ≡ Some opening.served) where
+  behind : (first : List (List ℕ)) (x : Served) → replayed opening.bodies opening.served first ≡ Some x
+      → recovered (opening.bodies ++ first) ≡ Some (settled x)
+  behind first x is = recovered-behind opening.bodies opening.served x first gives is
 
   recovers_by : (old new : DiskView) → Stores opening turns old new → Recovers opening turns
   recovers_by old new s = record {
-    again = λ n going. behind (records_of (take n turns)) (state_in_end opening (take n turns)).served (s.again n going);
+    again = λ n going.
+        let all = s.again n going in
+        behind (records_of (take n turns)) all.next all.gives
+        ∙ ap (λ (x : Served). Some x) (settled_ahead all.next (state_in_end opening (take n turns)).served all.same);
     lawful = λ first others split.
         let p = s.lawful first others split in
-        (p.0, behind first p.0 p.1);
+        (settled p.0, behind first p.0 p.1);
   }
 
 -- what is said of a run where less is known
@@ -100,7 +105,8 @@ serving_by e before after old mid new store o images c = record {
   opening = o.state;
   turns = c.0;
   found = record { stood = o.stood; found = λ bodies stood. (o.found bodies stood).0; gives = o.gives };
-  ran = ran_by (Keeps mid o.state.bodies) (StoodFor old o.state.bodies) (λ stood. (o.found o.state.bodies stood).1) e o.state c.0 before after c.1;
+  ran = ran_by (KeepsState mid o.state) (StoodForState old o.state)
+      (λ stood. record { keeps = (o.found o.state.bodies stood.stood).1; lawful = stood.lawful }) e o.state c.0 before after c.1;
   reads = (mid.trace, c.2.trace);
   survives = λ stood. survives_by o.state c.0 old mid new images (o.found o.state.bodies stood).1 c.2;
   recovers = recovers_by o.state c.0 o.gives mid new c.2;

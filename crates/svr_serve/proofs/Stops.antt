@@ -7,7 +7,7 @@ use Rattle.std.proofs.KnownBytes.{Appends-trans, Consumes-trans}
 use Rattle.svr_core.specs.Run.{IsRun, Turn, closes}
 use Rattle.svr_core.specs.State.{State}
 use Rattle.svr_edge.proofs.CausesLemmas.{Rose-earlier}
-use Rattle.svr_edge.specs.Disk.{DiskView, IsDisk}
+use Rattle.svr_edge.specs.Disk.{DiskView}
 use Rattle.svr_lines.specs.Lines.{pieces_of}
 use Rattle.svr_lines.specs.Reading.{KnowsEnd, Reading, taken_bytes}
 use Rattle.svr_request.specs.declared.reply.Fault.TheVariants as fault
@@ -16,7 +16,7 @@ use Rattle.svr_request.specs.declared.reply.Reply.TheVariants.{Faulted}
 use Rattle.svr_request.specs.Requests.{Submitted}
 use Rattle.svr_serve.specs.declared.ending.Ending.{Ending}
 use Rattle.svr_serve.specs.declared.ending.Ending.TheVariants.{Complete, Cut, Words, Input, Output, Write, Device, Journal, Memory, Bytes}
-use Rattle.svr_store.specs.Store.{Keeps}
+use Rattle.svr_store.specs.Store.{KeepsState}
 use Rattle.svr_serve.specs.Input.{ends_in_block, is_cut, request_in, requests_of, whole_in, whole_requests}
 use Rattle.svr_serve.specs.Program.{Answered, EndsInBlock, GoesOn, SendsAll, Streams, Took, TookLess, lines_of, requests_in}
 use Rattle.svr_serve.specs.declared.turn.Turn.TheVariants as turn
@@ -173,7 +173,7 @@ module _ (opening : State) (start : Streams) (disk : DiskView) (old new : Standi
 
   ran_idle : (e : Ending) → EndsServing e → (e ≡ Output → ⊥) → (e ≡ Write → ⊥)
       → Answered (status_of e) start.left new.streams.left (requests_in s.turns) → new.streams.taken ≡ old.streams.taken
-      → Ran (Keeps disk opening.bodies) e opening s.turns start new.streams
+      → Ran (KeepsState disk opening) e opening s.turns start new.streams
   ran_idle e serving sink write answered silent = record {
     serving = serving;
     run = s.kept.run;
@@ -258,7 +258,7 @@ module _ (opening : State) (start : Streams) (disk : DiskView) (old new : Standi
         (next_whole opening start.left start.taken disk old new s r.request t) t.known_end
         (asked_more opening start.left start.taken disk old new s reply r)
 
-    run_all : IsRun (Keeps disk opening.bodies) opening turns
+    run_all : IsRun (KeepsState disk opening) opening turns
     run_all = run_more opening s.turns disk old.disk new.disk old.store new.store s.kept r.request reply
         (one opening start.left start.taken disk old new s reply r)
 
@@ -287,9 +287,9 @@ module _ (opening : State) (start : Streams) (disk : DiskView) (old new : Standi
     no_more : (e : Ending) → IsClosedBy e reply → (e ≡ Write → ⊥) → (e ≡ Memory → ⊥) → GoesOn turns
     no_more e by write memory = elim by [ inl w ↦ absurd (write w.0) | inr m ↦ absurd (memory m.0) ]
 
-    carries_closed : (e : Ending) → IsClosedBy e reply → IsDisk new.disk → new.streams.taken ≡ old.streams.taken
+    carries_closed : (e : Ending) → IsClosedBy e reply → new.streams.taken ≡ old.streams.taken
         → Carries e opening start new.streams disk new.disk
-    carries_closed e by laws silent = (
+    carries_closed e by silent = (
       turns,
       record {
         serving = closed_serving e by;
@@ -306,7 +306,7 @@ module _ (opening : State) (start : Streams) (disk : DiskView) (old new : Standi
         going = no_more e by;
       },
       Stores-closed opening s.turns disk old.disk new.disk old.store new.store s.kept r.request reply
-          (one opening start.left start.taken disk old new s reply r) laws (is_closed e by),
+          (one opening start.left start.taken disk old new s reply r) (is_closed e by),
     )
 
   -- the sink failed
@@ -337,12 +337,12 @@ module _ (opening : State) (start : Streams) (disk : DiskView) (old new : Standi
         Stores-going opening (turns reply r) disk new.disk new.store k,
       )
 
-  carries_stop : (e : Ending) → StopsTurn e old new → IsDisk new.disk → Carries e opening start new.streams disk new.disk
-  carries_stop e p laws = elim p [
+  carries_stop : (e : Ending) → StopsTurn e old new → Carries e opening start new.streams disk new.disk
+  carries_stop e p = elim p [
     | inl cut ↦ subst (λ (x : Ending). Carries x opening start new.streams disk new.disk) (sym cut.0) (carries_output cut.1)
     | inr none ↦ elim none.0 [
       | inl reads ↦ carries_reading e reads.0 none.1.taken reads.1 reads.2
-      | inr closed ↦ carries_closed closed.0 closed.2 e closed.1 laws none.1.taken
+      | inr closed ↦ carries_closed closed.0 closed.2 e closed.1 none.1.taken
     ]
   ]
 
@@ -473,10 +473,10 @@ module _ (opening : State) (start : Streams) (disk : DiskView) (old new : Standi
   ends_cut e done is = ends_inside opening start disk old new b.so_far
       (reads_none Cut old new (subst (λ (x : Ending). StopsTurn x old new) is done) (λ other. cc) (λ other. cc) (λ other. cc)).0
 
-  pub ends_stop : (e : Ending) → TurnDoes (turn.Stop e) old new → HasTurnCauses (turn.Stop e) old new → IsDisk new.disk
+  pub ends_stop : (e : Ending) → TurnDoes (turn.Stop e) old new → HasTurnCauses (turn.Stop e) old new
       → Carries e opening start new.streams disk new.disk × EndsBecause e start new.streams disk new.disk
-  ends_stop e done causes laws = (
-    carries_stop opening start disk old new b.so_far e done laws,
+  ends_stop e done causes = (
+    carries_stop opening start disk old new b.so_far e done,
     record {
       sent = sends_all e done causes;
       later = omega (arith, b.writes_later, causes.writes_later);

@@ -9,16 +9,16 @@ use Rattle.svr_edge.specs.Causes.{Rose}
 use Rattle.svr_edge.specs.Disk.{DiskView, IsImage, IsTornImage, Leaves, Reads}
 use Rattle.svr_journal.specs.File.{StandsFor, StandsForSome}
 use Rattle.svr_journal.specs.Opening.{AnyRose, opened_bytes}
-use Rattle.svr_core.specs.Replay.{replayed}
-use Rattle.svr_core.specs.Run.{IsRun, Turn, closes, is_in_doubt, reads_of, records_of, state_in_end}
-use Rattle.svr_core.specs.State.{Served, State, empty}
+use Rattle.svr_core.specs.Replay.{recovered}
+use Rattle.svr_core.specs.Run.{IsRun, Turn, closes, doubtful, kept, reads_of, records_of, state_in_end}
+use Rattle.svr_core.specs.State.{Served, State, settled}
 use Rattle.svr_pages.specs.Stretch.{with_reads}
 use Rattle.svr_request.specs.declared.reply.Fault.TheVariants as fault
 use Rattle.svr_request.specs.declared.reply.Reply.{Reply}
 use Rattle.svr_request.specs.declared.reply.Reply.TheVariants.{Faulted}
 use Rattle.svr_request.specs.Replies.{text_of}
 use Rattle.svr_request.specs.Requests.{Submitted}
-use Rattle.svr_store.specs.Opening.{IsNoJournal, StoodFor}
+use Rattle.svr_store.specs.Opening.{IsNoJournal, StoodFor, StoodForState}
 use Rattle.svr_serve.specs.Input.{ends_in_block, requests_of, whole_requests}
 
 -- the words, the program's name first, ask to serve
@@ -116,13 +116,6 @@ pub record Answered (status : ℕ) (left rest : Option (List ℕ)) (requests : L
 abbrev pub IsHalfMade : DiskView → List ℕ → Type 0
 IsHalfMade disk image = (disk.size ≡ 0) × IsTornImage disk 0 9 image
 
--- the records that are there after a turn, and the one whose write failed
-abbrev pub kept : Turn → List (List ℕ)
-kept t = if is_in_doubt t.reply then [] else t.added
-
-abbrev pub doubtful : Turn → List (List ℕ)
-doubtful t = if is_in_doubt t.reply then t.added else []
-
 -- what a crash leaves of the records
 pub record Survives (bodies : List (List ℕ)) (turns : List Turn) (old new : DiskView) : Type 0 where
   -- at any moment those that were found, and behind them the first ones of the turns
@@ -132,12 +125,12 @@ pub record Survives (bodies : List (List ℕ)) (turns : List Turn) (old new : Di
 
 -- what the records give when they are read again
 pub record Recovers (opening : State) (turns : List Turn) : Type 0 where
-  -- those of the first turns give what was served after them
+  -- those of the first turns give what was served after them, without a merge that wasn't published
   pub again : (n : ℕ) → GoesOn (take n turns)
-      → replayed empty (opening.bodies ++ records_of (take n turns)) ≡ Some (state_in_end opening (take n turns)).served
+      → recovered (opening.bodies ++ records_of (take n turns)) ≡ Some (settled (state_in_end opening (take n turns)).served)
   -- and each of the records is accepted in its place
   pub lawful : (first others : List (List ℕ)) → records_of turns ≡ first ++ others
-      → (served : Served) × (replayed empty (opening.bodies ++ first) ≡ Some served)
+      → (served : Served) × (recovered (opening.bodies ++ first) ≡ Some served)
 
 -- behind what opening read, the trace has the pages that are read for the turns, in their order
 abbrev pub ReadsBehind : List Turn → DiskView → Type 0
@@ -160,7 +153,7 @@ pub record Unopened (status : ℕ) (before after : Streams) (old new : DiskView)
 pub record IsFound (disk : DiskView) (opening : State) : Type 0 where
   pub stood : (bytes : List ℕ) → Reads disk bytes → StandsFor (opened_bytes bytes) opening.bodies
   pub found : (bodies : List (List ℕ)) → StoodFor disk bodies → bodies ≡ opening.bodies
-  pub gives : replayed empty opening.bodies ≡ Some opening.served
+  pub gives : recovered opening.bodies ≡ Some opening.served
 
 -- behind turns that were carried from the state that the disk stood for
 pub record Carried (status : ℕ) (before after : Streams) (old new : DiskView) : Type 0 where
@@ -168,8 +161,9 @@ pub record Carried (status : ℕ) (before after : Streams) (old new : DiskView) 
   pub turns : List Turn
   pub statuses : Contains (0 ∷ 1 ∷ 3 ∷ 4 ∷ 5 ∷ 7 ∷ 8 ∷ []) status
   pub found : IsFound old opening
-  -- where the disk stood for its records, each reply is the one due, or has a cause outside
-  pub run : IsRun (StoodFor old opening.bodies) opening turns
+  -- where the disk stood for its records, and each slice among them was the next one of its merge, each reply is the one due, or has a
+  -- cause outside
+  pub run : IsRun (StoodForState old opening) opening turns
   pub answered : Answered status before.left after.left (requests_in turns)
   -- the replies were written, and the fault line behind them; or a beginning of the replies where the sink failed
   pub lines : (status ≡ 4 → ⊥) → WritesBehind (lines_of turns) (fault_line status) before after

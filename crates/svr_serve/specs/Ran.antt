@@ -2,8 +2,8 @@
 use Rattle.std.specs.Prelude.{◌≡◌, ◌⊎◌, ◌≤◌, ◌^◌, ℕ, List, ◌++◌, flat_map, take, Some, Result, Ok, Err, ⊤}
 use Rattle.std.specs.Io.KnownBytes.{Appends}
 use Rattle.svr_core.specs.Replay.{replayed}
-use Rattle.svr_core.specs.Run.{IsRun, Turn, reads_of, records_of, state_in_end}
-use Rattle.svr_core.specs.State.{Served, State}
+use Rattle.svr_core.specs.Run.{IsRun, Turn, doubtful, kept, reads_of, records_of, state_in_end}
+use Rattle.svr_core.specs.State.{IsWithMerge, Served, State}
 use Rattle.svr_edge.specs.Causes.{Rose}
 use Rattle.svr_edge.specs.Disk.{DiskView, IsImage, Leaves, Reads}
 use Rattle.svr_journal.specs.File.{StandsForSome}
@@ -11,14 +11,14 @@ use Rattle.svr_journal.specs.Opening.{AnyRose, opened_bytes}
 use Rattle.svr_pages.specs.Stretch.{with_reads}
 use Rattle.svr_request.specs.declared.reply.Fault.TheVariants as fault
 use Rattle.svr_request.specs.declared.reply.Reply.TheVariants.{Faulted}
-use Rattle.svr_store.specs.Opening.{IsNoJournal, Opens, StoodFor}
-use Rattle.svr_store.specs.Store.{Keeps}
+use Rattle.svr_store.specs.Opening.{IsNoJournal, Opens, StoodFor, StoodForState}
+use Rattle.svr_store.specs.Store.{Keeps, KeepsState}
 use Rattle.svr_serve.specs.declared.ending.Ending.{Ending}
 use Rattle.svr_serve.specs.declared.ending.Ending.TheVariants as ending
 use Rattle.svr_serve.specs.declared.session.Session.{Session}
 use Rattle.svr_serve.specs.Layout.{status_of}
 use Rattle.svr_serve.specs.Program.{Answered, EndsInBlock, EndsWith, GoesOn, IsFound, IsHalfMade, Recovers, SendsAll, Streams}
-use Rattle.svr_serve.specs.Program.{ReadsBehind, Survives, Took, TookLess, WritesPart, doubtful, kept, lines_of, requests_in}
+use Rattle.svr_serve.specs.Program.{ReadsBehind, Survives, Took, TookLess, WritesPart, lines_of, requests_in}
 use Rattle.svr_serve.specs.Turning.{IsNew}
 
 -- ---- before a request was read
@@ -60,6 +60,12 @@ pub record Ran (kept : Type 0) (e : Ending) (opening : State) (turns : List Turn
   pub closed : e ≡ ending.Write → EndsWith (Faulted fault.Write) turns
   pub going : (e ≡ ending.Write → ⊥) → (e ≡ ending.Memory → ⊥) → GoesOn turns
 
+-- the records of turns, read again, give what is served after them, or that with a merge that was stopped
+pub record GivesAgain (opening : State) (turns : List Turn) : Type 0 where
+  pub next : Served
+  pub gives : replayed opening.bodies opening.served (records_of turns) ≡ Some next
+  pub same : IsWithMerge next (state_in_end opening turns).served
+
 -- what became of the records, where the disk kept them
 pub record Stores (opening : State) (turns : List Turn) (old new : DiskView) : Type 0 where
   -- what was read
@@ -67,21 +73,20 @@ pub record Stores (opening : State) (turns : List Turn) (old new : DiskView) : T
   pub any_moment : Keeps old opening.bodies → Leaves old new (StandsForSome opening.bodies (records_of turns))
   pub in_end : Keeps old opening.bodies → (image : List ℕ) → IsImage new image
       → StandsForSome (opening.bodies ++ flat_map kept turns) (flat_map doubtful turns) image
-  pub again : (n : ℕ) → GoesOn (take n turns)
-      → replayed opening.served (records_of (take n turns)) ≡ Some (state_in_end opening (take n turns)).served
+  pub again : (n : ℕ) → GoesOn (take n turns) → GivesAgain opening (take n turns)
   pub lawful : (first others : List (List ℕ)) → records_of turns ≡ first ++ others
-      → (served : Served) × (replayed opening.served first ≡ Some served)
+      → (served : Served) × (replayed opening.bodies opening.served first ≡ Some served)
 
 abbrev pub Carries : Ending → State → Streams → Streams → DiskView → DiskView → Type 0
 Carries e opening before after old new =
-    (turns : List Turn) × Ran (Keeps old opening.bodies) e opening turns before after × Stores opening turns old new
+    (turns : List Turn) × Ran (KeepsState old opening) e opening turns before after × Stores opening turns old new
 
 -- the disk was opened, and turns were carried from what it stood for
 pub record Serving (e : Ending) (before after : Streams) (old new : DiskView) : Type 0 where
   pub opening : State
   pub turns : List Turn
   pub found : IsFound old opening
-  pub ran : Ran (StoodFor old opening.bodies) e opening turns before after
+  pub ran : Ran (StoodForState old opening) e opening turns before after
   pub reads : ReadsBehind turns new
   pub survives : StoodFor old opening.bodies → Survives opening.bodies turns old new
   pub recovers : Recovers opening turns

@@ -1,7 +1,12 @@
 pub mod Appended
+pub mod Entries
 pub mod Kept
 pub mod Opened
+pub mod Planning
 pub mod Searching
 pub mod Silent
+pub mod Sliced
+pub mod Stepping
+pub mod Steps
 pub mod Stretched
 pub mod Undamaged

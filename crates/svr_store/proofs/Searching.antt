@@ -1,5 +1,5 @@
 -- What a search over the pages of a disk comes to.
-use Rattle.std.proofs.Common.{◌≡◌, ◌≤◌, ℕ, List, [], ◌∷◌, ◌++◌, map, take, Option, None, Some, Result, Ok, Err, IfOk, refl, sym, ap, subst, ◌∙◌, arith}
+use Rattle.std.proofs.Common.{◌≡◌, ◌≤◌, true, ℕ, List, [], ◌∷◌, ◌++◌, map, take, Option, None, Some, Result, Ok, Err, IfOk, refl, sym, subst, ◌∙◌, arith}
 use Rattle.std.specs.List.{sum_by}
 use Rattle.std.specs.Option.{ForSome, IsSome, option_map}
 use Rattle.std.proofs.lemmas.List.Sums.{sum_by-append, sum_by-cons}
@@ -27,13 +27,14 @@ use Rattle.svr_core.specs.Answers.{answer_in}
 use Rattle.svr_core.specs.Asked.{AsksNeeded}
 use Rattle.svr_catalog.specs.Stands.{CatalogValue, Stands}
 use Rattle.svr_core.specs.Kept.{CoreValue, ServesAs, catalog_of}
+use Rattle.svr_core.specs.Merges.{IsKnown}
 use Rattle.svr_core.specs.Run.{pages_needed}
 use Rattle.svr_core.specs.State.{Served}
-use Rattle.svr_store.specs.Finding.{CameTo, Finds, HoldsPages, reply_of}
+use Rattle.svr_store.specs.Finding.{CameTo, Finds, reply_of}
 use Rattle.svr_store.proofs.Stretched.{FailMeans, Stretched, stops-stretched}
 use Rattle.svr_store.proofs.Undamaged.{asked-undamaged}
 
-sum_by-at : (weight : ℕ → ℕ) (pages : List PageRef)
+pub sum_by-at : (weight : ℕ → ℕ) (pages : List PageRef)
     → sum_by weight (map (λ (page : PageRef). page.at) pages) ≡ sum_by (λ (page : PageRef). weight page.at) pages
 sum_by-at weight [] = refl
 sum_by-at weight (page ∷ pages) =
@@ -63,22 +64,10 @@ module _ {R D : Type 0} (view : D → DiskView) (reach_of : R → ℕ) (disk_of 
     stretched ready = stops-stretched view reach_of disk_of pages_of gives fails gave failed asks.given asks.left old asks.between new
         result ready asks.in_turn asks.stops
 
-    -- a value that no page changes is the same in the end
-    pub same-name : {N : Type 0} (name : R → N) → ((old : R) (want : PageRef) (new : R) → gives old want new → name new ≡ name old)
-        → ((old : R) (want : PageRef) (why : PageFault) (new : R) → fails old want why new → name new ≡ name old) → name new ≡ name old
-    same-name name given_same failed_same =
-        by result asks.left asks.stops ∙ stretch-same gives name given_same asks.given old asks.between asks.in_turn
-      where
-        by : (result : Result Answer ScanFault) (left : List PageRef) → Stops fails left asks.between new result → name new ≡ name asks.between
-        by (Ok value) left stops = ap name stops.1
-        by (Err scan.Memory) left same = ap name same
-        by (Err (scan.Page why)) [] first = absurd first
-        by (Err (scan.Page why)) (page ∷ left) first = failed_same asks.between page why new first
-
   -- a page that is needed isn't damaged where the posted pairs are told
   not-damaged : (given left : List PageRef) (between : R) (at : ℕ) (why : _) → told between ≡ told old
       → Stops fails left between new (let r : Result Answer ScanFault = Err (scan.Page (page.Damaged at why)) in r)
-      → (s : Served) → IsListing tokens_of s.listed.listing → (held : HoldsPages (told old) s)
+      → (s : Served) → IsListing tokens_of s.listed.listing → (held : IsKnown (told old) s)
       → ArePages (let r : Result Answer ScanFault = Err (scan.Page (page.Damaged at why)) in r) (given ++ left)
       (pages_needed s.listed.listing q.terms q.mode q.k) → ⊥
   not-damaged given [] between at why same first s is held needed = absurd first
@@ -88,17 +77,17 @@ module _ {R D : Type 0} (view : D → DiskView) (reach_of : R → ℕ) (disk_of 
       (needed.1 _) (subst (λ (a : ℕ). damage_in want (bytes_at held.bytes a) ≡ Some why) tells.0 (tells.1 held.bytes (same ∙ held.is)))
 
   came : (result : Result Answer ScanFault)
-      → IfOk result (λ answer. ForSome (told old) (λ bytes. (s : Served) → ServesAs core s → HoldsPosted (pairs_told bytes) s.listed.listing
+      → IfOk result (λ answer. ForSome (told old) (λ bytes. (s : Served) → ServesAs core s → s.lawful ≡ true → HoldsPosted (pairs_told bytes) s.listed.listing
       → answer ≡ answer_in s q.terms q.mode q.k))
       → (given left : List PageRef) (between : R) → told between ≡ told old → Stops fails left between new result
-      → (s : Served) → ServesAs core s → IsListing tokens_of s.listed.listing
-      → (HoldsPages (told old) s → ArePages result (given ++ left) (pages_needed s.listed.listing q.terms q.mode q.k))
-      → CameTo (HoldsPages (told old) s) (answer_in s q.terms q.mode q.k) (reply_of result)
-  came (Ok answer) exact given left between same stops s serves is needed = λ held. exact held.bytes held.is s serves held.holds
+      → (s : Served) → ServesAs core s → (IsKnown (told old) s → IsListing tokens_of s.listed.listing)
+      → (IsKnown (told old) s → ArePages result (given ++ left) (pages_needed s.listed.listing q.terms q.mode q.k))
+      → CameTo (IsKnown (told old) s) (answer_in s q.terms q.mode q.k) (reply_of result)
+  came (Ok answer) exact given left between same stops s serves is needed = λ held. exact held.bytes held.is s serves held.lawful held.holds
   came (Err scan.Memory) exact given left between same stops s serves is needed = tt
   came (Err (scan.Page page.Read)) exact given left between same stops s serves is needed = tt
   came (Err (scan.Page (page.Damaged at why))) exact given left between same stops s serves is needed =
-      λ held. not-damaged given left between at why same stops s is held (needed held)
+      λ held. not-damaged given left between at why same stops s (is held) held (needed held)
 
 -- a failed read is told as such alone
 failed_read : (result : Result Answer ScanFault) (P : Type 0) → (result ≡ Err (scan.Page page.Read) → P)
@@ -124,25 +113,25 @@ module _ {R D : Type 0} (view : D → DiskView) (reach_of : R → ℕ) (disk_of 
   -- all of it
   pub finds : told old ≡ option_map (take (reach_of old)) (view (disk_of old)).content
       → IsReady (reach_of old) (view (disk_of old)) (pages_of old) → IsSome (catalog_of core)
-      → IfOk result (λ answer. ForSome (told old) (λ bytes. (s : Served) → ServesAs core s → HoldsPosted (pairs_told bytes) s.listed.listing
+      → IfOk result (λ answer. ForSome (told old) (λ bytes. (s : Served) → ServesAs core s → s.lawful ≡ true → HoldsPosted (pairs_told bytes) s.listed.listing
       → answer ≡ answer_in s q.terms q.mode q.k))
       → (result ≡ Err (scan.Page page.Read) → Rose (view (disk_of old)).read_faults (view (disk_of new)).read_faults)
       → Finds core q (reach_of old) (view (disk_of old)) (view (disk_of new)) (reply_of result)
   finds tells ready set exact rose =
       let s = stretched view reach_of disk_of pages_of gives fails gave failed told same_told faulty core q old new result asks ready in
       let between = stretch-same gives told same_told asks.given old asks.between asks.in_turn in
-      let needed : (v : Served) → ServesAs core v → HoldsPages (told old) v
+      let needed : (v : Served) → ServesAs core v → IsKnown (told old) v
       → ArePages result (asks.given ++ asks.left) (pages_needed v.listed.listing q.terms q.mode q.k) =
-      λ v serves held. asks.are_needed held.bytes held.is v serves held.holds in
+      λ v serves held. asks.are_needed held.bytes held.is v serves held.lawful held.holds in
       record {
         reads = s.reads;
         disk = s.disk;
         came = λ v serves.
-            subst (λ (t : Option (List ℕ)). CameTo (HoldsPages t v) (answer_in v q.terms q.mode q.k) (reply_of result)) tells
+            subst (λ (t : Option (List ℕ)). CameTo (IsKnown t v) (answer_in v q.terms q.mode q.k) (reply_of result)) tells
             (came view reach_of disk_of pages_of gives fails gave failed told same_told faulty core q old new result exact asks.given asks.left
-            asks.between between asks.stops v serves (listing_of core.kept v set serves.lists) (needed v serves));
+            asks.between between asks.stops v serves (λ held. listing_of core.kept v set (serves.lists held.lawful)) (needed v serves));
         needed = λ v serves held weight.
-            let there = subst (λ (t : Option (List ℕ)). HoldsPages t v) (sym tells) held in
+            let there = subst (λ (t : Option (List ℕ)). IsKnown t v) (sym tells) held in
             let by_page : PageRef → ℕ = λ (p : PageRef). weight p.at in
             let all = pages_needed v.listed.listing q.terms q.mode q.k in
             omega (

@@ -1,5 +1,5 @@
 -- What pages that were asked for in turn, and the stop behind them, mean for a disk.
-use Rattle.std.proofs.Common.{◌≡◌, ◌≤◌, ℕ, List, [], ◌∷◌, ◌++◌, Result, Ok, Err, sym, subst, ◌∙◌, arith}
+use Rattle.std.proofs.Common.{◌≡◌, ◌≤◌, ℕ, List, [], ◌∷◌, ◌++◌, Result, Ok, Err, ap, sym, subst, ◌∙◌, arith}
 use Rattle.std.specs.List.{sum_by}
 use Rattle.std.proofs.lemmas.List.Sums.{sum_by-append, sum_by-cons}
 use Rattle.svr_edge.specs.Disk.{DiskView}
@@ -10,7 +10,7 @@ use Rattle.svr_pages.specs.Asked.{Fails, IsReady}
 use Rattle.svr_pages.specs.Cached.{CachedPages}
 use Rattle.svr_pages.specs.Stretch.{ReadsInTurn}
 use Rattle.svr_pages.proofs.Faults.{fault-means, fault-ready}
-use Rattle.svr_pages.proofs.Stretching.{Means, picked-sums, reads_more, stretch-given, stretch-ready}
+use Rattle.svr_pages.proofs.Stretching.{Means, picked-sums, reads_more, stretch-given, stretch-ready, stretch-same}
 use Rattle.svr_postpage.specs.Reading.{InTurn}
 use Rattle.svr_postpage.specs.declared.page_ref.PageFault.{PageFault}
 use Rattle.svr_postpage.specs.declared.page_ref.PageRef.{PageRef}
@@ -97,3 +97,18 @@ module _ {R D : Type 0} (view : D → DiskView) (reach_of : R → ℕ) (disk_of 
   stops-stretched gave failed given [] old between new (Err (scan.Page why)) ready in_turn first = absurd first
   stops-stretched gave failed given (page ∷ left) old between new (Err (scan.Page why)) ready in_turn first =
       fault-stretched failed given page left why old between new (given-stretched gave given old between ready in_turn) first
+
+-- a value that no page changes is the same behind such a call
+pub stops-same : {R T N : Type 0} (gives : R → PageRef → R → Type 0) (fails : R → PageRef → PageFault → R → Type 0) (name : R → N)
+    → ((old : R) (want : PageRef) (new : R) → gives old want new → name new ≡ name old)
+    → ((old : R) (want : PageRef) (why : PageFault) (new : R) → fails old want why new → name new ≡ name old)
+    → (given left : List PageRef) (old between new : R) (result : Result T ScanFault) → InTurn gives given old between
+    → Stops fails left between new result → name new ≡ name old
+stops-same {R} {T} gives fails name given_same failed_same given left old between new result in_turn stops =
+    by result left stops ∙ stretch-same gives name given_same given old between in_turn
+  where
+    by : (result : Result T ScanFault) (left : List PageRef) → Stops fails left between new result → name new ≡ name between
+    by (Ok value) left stops = ap name stops.1
+    by (Err scan.Memory) left same = ap name same
+    by (Err (scan.Page why)) [] first = absurd first
+    by (Err (scan.Page why)) (page ∷ left) first = failed_same between page why new first

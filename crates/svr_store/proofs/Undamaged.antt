@@ -99,3 +99,18 @@ asked-undamaged tokens bytes l is holds terms p given left others page why same 
       sum_by-append (damages bytes) given (page ∷ left),
       sum_by-cons (damages bytes) page left,
     )
+
+-- nor is one that was asked for among all posted ones of these terms
+pub listed-undamaged : (tokens : List ℕ → List (List ℕ)) (bytes : List ℕ) (l : Listing) → IsListing tokens l → HoldsPosted (pairs_told bytes) l
+    → (terms : List (List ℕ)) (given left others : List PageRef) (page : PageRef) (why : Damage)
+    → (given ++ page ∷ left) ++ others ≡ refs_of l terms → damage_in page (bytes_at bytes page.at) ≡ Some why → ⊥
+listed-undamaged tokens bytes l is holds terms given left others page why same damaged =
+    omega (
+      arith,
+      ap (sum_by (damages bytes)) same,
+      some_of bytes page why damaged,
+      none_under tokens bytes l is holds terms,
+      sum_by-append (damages bytes) (given ++ page ∷ left) others,
+      sum_by-append (damages bytes) given (page ∷ left),
+      sum_by-cons (damages bytes) page left,
+    )

@@ -1,5 +1,5 @@
 -- Words of private clauses: what a search over the pages of a disk comes to.
-use Rattle.std.specs.Prelude.{◌≡◌, ◌≤◌, ℕ, List, map, Option, Some, Result, Ok, Err}
+use Rattle.std.specs.Prelude.{◌≡◌, ◌≤◌, ℕ, List, map, Result, Ok, Err}
 use Rattle.std.specs.List.{sum_by}
 use Rattle.std.specs.Option.{option_map}
 use Rattle.std.specs.Prelude.{take}
@@ -7,9 +7,7 @@ use Rattle.svr_edge.specs.Causes.{Rose}
 use Rattle.svr_edge.specs.Disk.{DiskView}
 use Rattle.svr_iter.specs.declared.fault.ScanFault.{ScanFault}
 use Rattle.svr_iter.specs.declared.fault.ScanFault.TheVariants as scan
-use Rattle.svr_listing.specs.Kept.{HoldsPosted}
 use Rattle.svr_pages.specs.Stretch.{ReadsInTurn}
-use Rattle.svr_postpage.specs.Wanted.{pairs_told}
 use Rattle.svr_postpage.specs.declared.page_ref.PageFault.TheVariants as page
 use Rattle.svr_request.specs.declared.refusal.Refusal.TheVariants as refusal
 use Rattle.svr_request.specs.declared.reply.Fault.TheVariants as fault
@@ -19,6 +17,7 @@ use Rattle.svr_topk.specs.declared.search.Answer.{Answer}
 use Rattle.svr_core.specs.declared.queries.Query.{Query}
 use Rattle.svr_core.specs.Answers.{answer_in}
 use Rattle.svr_core.specs.Kept.{CoreValue, ServesAs}
+use Rattle.svr_core.specs.Merges.{IsKnown}
 use Rattle.svr_core.specs.Run.{pages_needed}
 use Rattle.svr_core.specs.State.{Served}
 
@@ -28,12 +27,6 @@ reply_of (Ok answer) = Found answer
 reply_of (Err scan.Memory) = Refused refusal.Memory
 reply_of (Err (scan.Page page.Read)) = Faulted fault.Read
 reply_of (Err (scan.Page (page.Damaged at why))) = Faulted (fault.Damaged at)
-
--- what is told holds the posted pairs of what is served
-pub record HoldsPages (told : Option (List ℕ)) (s : Served) : Type 0 where
-  pub bytes : List ℕ
-  pub is : told ≡ Some bytes
-  pub holds : HoldsPosted (pairs_told bytes) s.listed.listing
 
 -- this is the answer, where the posted pairs are told, and no page is damaged there
 abbrev pub CameTo : Type 0 → Answer → Reply → Type 0
@@ -55,7 +48,7 @@ IsToSearch _ = ⊥
 pub record Finds (core : CoreValue) (q : Query) (reach : ℕ) (old new : DiskView) (reply : Reply) : Type 0 where
   pub reads : List ℕ
   pub disk : ReadsInTurn reads old new
-  pub came : (s : Served) → ServesAs core s → CameTo (HoldsPages (option_map (take reach) old.content) s) (answer_in s q.terms q.mode q.k) reply
-  pub needed : (s : Served) → ServesAs core s → HoldsPages (option_map (take reach) old.content) s
+  pub came : (s : Served) → ServesAs core s → CameTo (IsKnown (option_map (take reach) old.content) s) (answer_in s q.terms q.mode q.k) reply
+  pub needed : (s : Served) → ServesAs core s → IsKnown (option_map (take reach) old.content) s
       → (weight : ℕ → ℕ) → sum_by weight reads ≤ sum_by weight (map (λ page. page.at) (pages_needed s.listed.listing q.terms q.mode q.k))
   pub read : reply ≡ Faulted fault.Read → Rose old.read_faults new.read_faults

@@ -1,5 +1,6 @@
 pub mod Finding
 pub mod Making
+pub mod Merging
 pub mod Opening
 pub mod Store
 pub mod Submitting

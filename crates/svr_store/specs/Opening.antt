@@ -1,10 +1,10 @@
 -- Opening a store.
-use Rattle.std.specs.Prelude.{◌≡◌, ◌≢◌, ◌⊎◌, ℕ, List, take, Some}
+use Rattle.std.specs.Prelude.{◌≡◌, ◌≢◌, ◌⊎◌, ℕ, true, List, take, Some}
 use Rattle.svr_edge.specs.Disk.{DiskView, Reads}
 use Rattle.svr_journal.specs.File.{StandsFor, magic}
 use Rattle.svr_journal.specs.Opening.{opened_bytes}
-use Rattle.svr_core.specs.Replay.{IsAtFault, replayed}
-use Rattle.svr_core.specs.State.{State, empty}
+use Rattle.svr_core.specs.Replay.{IsAtFault, recovered}
+use Rattle.svr_core.specs.State.{State}
 use Rattle.svr_store.specs.Store.{Keeps, Serves, StoreValue}
 
 -- the disk stood for these records, or it was empty and there is none
@@ -13,10 +13,15 @@ pub record StoodFor (disk : DiskView) (bodies : List (List ℕ)) : Type 0 where
   pub reads : Reads disk bytes
   pub stands : StandsFor (opened_bytes bytes) bodies
 
+-- the disk stood for the records of a state, and each slice among them was the next one of its merge
+pub record StoodForState (disk : DiskView) (s : State) : Type 0 where
+  pub stood : StoodFor disk s.bodies
+  pub lawful : s.served.lawful ≡ true
+
 -- a store was opened: it serves what the records that were read give
 pub record Opens (old new : DiskView) (store : StoreValue) : Type 0 where
   pub state : State
-  pub gives : replayed empty state.bodies ≡ Some state.served
+  pub gives : recovered state.bodies ≡ Some state.served
   pub serves : Serves store state
   -- the bytes of the disk stood for these records
   pub stood : (bytes : List ℕ) → Reads old bytes → StandsFor (opened_bytes bytes) state.bodies

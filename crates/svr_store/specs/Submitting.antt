@@ -1,7 +1,7 @@
 -- What the answer to a request does to a store and its disk.
-use Rattle.std.specs.Prelude.{◌≡◌, ◌≤◌, ◌++◌, false, Option, Some, None}
+use Rattle.std.specs.Prelude.{◌≡◌, ◌≤◌, ◌++◌, ℕ, true, false, List, Option, Some, None}
 use Rattle.svr_edge.specs.Causes.{Rose}
-use Rattle.svr_edge.specs.Disk.{DiskView, Leaves}
+use Rattle.svr_edge.specs.Disk.{DiskView, IsImage, Leaves}
 use Rattle.svr_journal.specs.File.{StandsForSome}
 use Rattle.svr_request.specs.declared.reply.Fault.TheVariants as fault
 use Rattle.svr_request.specs.declared.reply.Reply.{Reply}
@@ -9,29 +9,33 @@ use Rattle.svr_request.specs.declared.reply.Reply.TheVariants.{Faulted}
 use Rattle.svr_request.specs.Requests.{Submitted}
 use Rattle.svr_pages.specs.Stretch.{with_reads}
 use Rattle.svr_core.specs.Replay.{replayed}
-use Rattle.svr_core.specs.Run.{IsTurn, Turn, closes, is_in_doubt, state_then}
-use Rattle.svr_core.specs.State.{Served, State}
+use Rattle.svr_core.specs.Run.{IsTurn, Turn, closes, doubtful, is_in_doubt, kept, state_then}
+use Rattle.svr_core.specs.State.{IsWithMerge, Served, State}
 use Rattle.svr_store.specs.declared.store.Closed.{Closed}
 use Rattle.svr_store.specs.declared.store.Closed.TheVariants as closed
-use Rattle.svr_store.specs.Store.{Keeps, Serves, StoreValue}
+use Rattle.svr_store.specs.Store.{Keeps, KeepsState, Serves, StoreValue}
 
 -- one turn, from a state on
 pub record Submits (old new : DiskView) (after : StoreValue) (s : State) (request : Submitted) (reply : Reply) : Type 0 where
   pub turn : Turn
   pub asked : turn.request ≡ request
   pub told : turn.reply ≡ reply
-  pub is : IsTurn (Keeps old s.bodies) s turn
+  pub is : IsTurn (KeepsState old s) s turn
   -- the reads of its pages stand in the trace, and no others
   pub trace : new.trace ≡ with_reads old.trace turn.reads
   pub serves : closes reply ≡ false → Serves after (state_then s turn)
-  -- its records are accepted when they are read again, and give what is served
+  -- its records are accepted when they are read again, and give what is served, with a merge that was stopped
   pub next : Served
-  pub replays : replayed s.served turn.added ≡ Some next
-  pub same : closes reply ≡ false → next ≡ (state_then s turn).served
+  pub replays : replayed s.bodies s.served turn.added ≡ Some next
+  pub same : closes reply ≡ false → IsWithMerge next (state_then s turn).served
+  -- each slice was the next one of its merge, where all were before
+  pub lawful : KeepsState old s → next.lawful ≡ true
   -- whenever a crash comes, the records from before are there, with some of those of the turn
   pub any_moment : Keeps old s.bodies → Leaves old new (StandsForSome s.bodies turn.added)
-  -- and afterwards all of them are, unless a write failed
+  -- and afterwards all of them are, but for the last one where its write failed
   pub keeps : Keeps old s.bodies → is_in_doubt reply ≡ false → Keeps new (s.bodies ++ turn.added)
+  pub in_doubt : Keeps old s.bodies → is_in_doubt reply ≡ true → (image : List ℕ) → IsImage new image
+      → StandsForSome (s.bodies ++ kept turn) (doubtful turn) image
 
 -- a reply tells a failed write, or a failed read, only where the count of these rose
 pub record SubmitCauses (old new : DiskView) (reply : Reply) : Type 0 where

@@ -2,6 +2,7 @@
 #![tactic(auto)]
 
 mod finding;
+mod merges;
 mod store;
 
 pub use store::{Closed, Store};

@@ -9,12 +9,14 @@ ghost use Rattle.svr_request.specs.Requests.{Submitted, seen_or_refused, with_bl
 ghost use Rattle.svr_core.specs.Edits.{Accepts};
 ghost use Rattle.svr_core.specs.Outcomes.{outcome_of};
 ghost use Rattle.svr_core.specs.Kept.{catalog_of};
-ghost use Rattle.svr_core.specs.Plans.{IsEntry, IsQuery, MayAsk};
+ghost use Rattle.svr_core.specs.Merges.{MayCome};
+ghost use Rattle.svr_core.specs.Plans.{IsQuery, MayAsk};
 ghost use Rattle.svr_core.specs.Run.{closes};
 ghost use Rattle.svr_core.specs.State.{State};
-ghost use Rattle.svr_store.specs.Making.{Makes};
+ghost use Rattle.svr_store.specs.Making.{IsDueEntry, Makes};
 ghost use Rattle.svr_store.specs.Opening.{IsNoJournal, Opens};
 ghost use Rattle.svr_store.specs.Store.{IsOpen, Serves};
+ghost use Rattle.svr_store.specs.Merging.{SubmitsUnread};
 ghost use Rattle.svr_store.specs.Submitting.{SubmitCauses, Submits, closed_by};
 
 use crate::finding::find;
@@ -38,9 +40,9 @@ pub enum Closed {
 /// What is served, the place in the journal that keeps it, and pages of it that were read.
 #[derive(Drop)]
 pub struct Store {
-    core: Core,
-    journal: Journal,
-    pages: Pages,
+    pub(crate) core: Core,
+    pub(crate) journal: Journal,
+    pub(crate) pages: Pages,
     closed: Option<Closed>,
 }
 
@@ -56,8 +58,8 @@ impl Model for Store {
 }
 
 impl Store {
-    /// Opens the store of a disk: reads all records of its journal. An empty disk gets a journal without a record. No page is cached
-    /// yet, and there is room for `cache` of them.
+    /// Opens the store of a disk: reads all records of its journal, and forgets a merge that wasn't published. An empty disk gets a
+    /// journal without a record. No page is cached yet, and there is room for `cache` of them.
     pub fn open_store<D: Disk>(
         alloc: Global,
         disk: &mut D,
@@ -75,7 +77,8 @@ impl Store {
         ensures causes { OpenCauses (D.view disk.old) (D.view disk.new) result }
     {
         let mut journal = Journal::open_journal(disk)?;
-        let core = Core::replay(alloc, disk, &mut journal)?;
+        let mut core = Core::replay(alloc, disk, &mut journal)?;
+        core.forget_merge();
         let Ok(pages) = Pages::new(alloc, cache) else {
             return Err(JournalError::Memory);
         };
@@ -116,6 +119,8 @@ impl Store {
         match self.core.plan(alloc, request, block) {
             Ok(Plan::Search(query)) => self.search(alloc, disk, &query),
             Ok(Plan::Change(entry)) => self.commit(alloc, disk, entry),
+            Ok(Plan::Merge(part)) => self.step(alloc, disk, part),
+            Ok(Plan::WholeMerge) => self.merge(alloc, disk),
             Err(why) => Reply::Refused(why),
         }
     }
@@ -140,18 +145,21 @@ impl Store {
         find(alloc, &self.core, query, &mut reader)
     }
 
-    /// Appends the record of a change, and makes the change.
-    fn commit<D: Disk>(&mut self, alloc: Global, disk: &mut D, entry: Entry) -> Reply
+    /// Appends the record of an edit, and makes the edit.
+    pub(crate) fn commit<D: Disk>(&mut self, alloc: Global, disk: &mut D, entry: Entry) -> Reply
         requires open { IsOpen self.old (D.view disk.old) }
         requires accepted { Accepts (catalog_of self.old.core) entry.edit }
+        requires may_come { MayCome self.old.core entry.edit }
         requires size { IsBody entry.body }
-        ensures submits { (s : State) (request : Submitted) → Serves self.old s
-            → IsEntry (outcome_of s.served request) s.served.catalog entry
-            → Submits (D.view disk.old) (D.view disk.new) self.new s request result }
+        ensures submits { (s : State) (request : Submitted) → Serves self.old s → IsDueEntry (D.view disk.old) s request entry
+            → SubmitsUnread (D.view disk.old) (D.view disk.new) self.new s request result }
         ensures printable { IsPrintable result }
         ensures closed { self.new.closed ≡ closed_by result }
         ensures open { closes result ≡ false → IsOpen self.new (D.view disk.new) }
         ensures causes { SubmitCauses (D.view disk.old) (D.view disk.new) result }
+        ensures later { self.old.end ≤ self.new.end }
+        ensures within { self.old.end < self.new.end → self.new.end ≤ 2 ^ 40 }
+        ensures set { closes result ≡ false → IsSome (catalog_of self.old.core) → IsSome (catalog_of self.new.core) }
     {
         let Ok(frame) = Frame::new(alloc, entry.body.as_slice()) else {
             return Reply::Refused(Refusal::Memory);
@@ -166,15 +174,25 @@ impl Store {
         }
     }
 
-    /// Makes a change whose record is on the disk. Where memory is wanting, the store is closed.
+    /// Makes an edit whose record is on the disk. Where memory is wanting, the store is closed.
     fn make(&mut self, alloc: Global, edit: Edit) -> Reply
         requires accepted { Accepts (catalog_of self.old.core) edit }
+        requires may_come { MayCome self.old.core edit }
         requires numbered { self.old.core.changes + 1 < self.old.end }
         requires few { self.old.end ≤ 2 ^ 40 }
-        ensures { Makes self.old self.new edit result }
+        ensures makes { Makes self.old self.new edit result }
+        ensures end { self.new.end ≡ self.old.end }
+        ensures set { closes result ≡ false → IsSome (catalog_of self.new.core) }
     {
+        let is_change = edit.counted() == 1;
         match self.core.make(alloc, edit) {
-            Ok(()) => Reply::Accepted(self.core.changes()),
+            Ok(()) => {
+                if is_change {
+                    Reply::Accepted(self.core.changes())
+                } else {
+                    Reply::Left(self.core.left())
+                }
+            }
             Err(_) => {
                 self.closed = Some(Closed::Memory);
                 Reply::Faulted(Fault::Memory)

@@ -36,4 +36,3 @@ returns-in-Ended g c = λ opening serves.
 pub returns-in-Stop : goal.returns-in-Stop
 returns-in-Stop g c = λ opening serves.
     ends_stop opening _ _ _ _ (c.loop-ending.invariant.so_far opening serves) c.in-Stop.ending c.in-Stop.ensures.turn c.in-Stop.ensures.causes
-    (g.met.D.Disk.laws c.serve_one.new.disk)

@@ -1,16 +1,15 @@
-use Rattle.std.proofs.Common.{◌≡◌, ◌<◌, ◌≤◌, ◌+◌, ◌^◌, ℕ, length, Result, Err, inr, refl, ap, ◌∙◌, arith}
+use Rattle.std.proofs.Common.{◌≡◌, ◌<◌, ◌≤◌, ◌+◌, ◌^◌, ℕ, length, Result, Err, ap, ◌∙◌, arith}
 use Rattle.svr_journal.specs.declared.faults.AppendFault.{AppendFault}
-use Rattle.svr_request.specs.declared.refusal.Refusal.TheVariants as refusal
 use Rattle.svr_store.specs.Store.{StoreValue}
 use Rattle.svr_pages.proofs.Grown.{ready-grown}
-use Rattle.svr_store.proofs.Appended.{made_submits, opened_behind, write_submits}
+use Rattle.svr_store.proofs.Appended.{made_unread, opened_behind, write_unread}
 use Rattle.svr_store.proofs.Kept.{any_moment, fits_unless, keeps}
-use Rattle.svr_store.proofs.Silent.{full_submits, refused_submits}
+use Rattle.svr_store.proofs.Silent.{full_unread, memory_unread}
 use Rattle.svr_store.proofs.store.Store.commit.Goals as goal
 
 pub returns-in_default-clause-submits : goal.returns-in_default-clause-submits
 returns-in_default-clause-submits g c = λ s request serves is.
-    refused_submits (g.D.Disk.view c.args.disk.now) (g.met.D.Disk.laws c.args.disk.now) c.args.self.now s request serves refusal.Memory (inr refl)
+    memory_unread (g.D.Disk.view c.args.disk.now) (g.met.D.Disk.laws c.args.disk.now) c.args.self.now s request serves
 
 pub returns-in-Ok-append-clause-submits : goal.returns-in-Ok-append-clause-submits
 returns-in-Ok-append-clause-submits g c = λ s request serves is.
@@ -23,12 +22,12 @@ returns-in-Ok-append-clause-submits g c = λ s request serves is.
     let fits : place + 6 + length c.in-Ok.frame ≤ 2 ^ 40 =
     fits_unless (place + 6 + length c.in-Ok.frame) (2 ^ 40)
     (λ more. absurd (cc (c.in-Ok-append.ensures.full.1 more))) in
-    made_submits s request c.args.entry is old new (omega (arith, fits, ap length same, here.end)) c.append.ensures.trace
+    made_unread old new s request c.args.entry is (omega (arith, fits, ap length same, here.end)) c.append.ensures.trace
     (any_moment old new s.bodies place here.end c.in-Ok.frame c.args.entry.body same c.append.ensures.any_moment)
     (keeps old new s.bodies place here.end c.in-Ok.frame c.args.entry.body same c.append.new.self.end
     c.in-Ok-append.ensures.stored c.in-Ok-append.ensures.safe)
-    start c.make.new.self c.make.result here.serves here.unposted
-    (omega (arith, c.in-Ok-append.ensures.end, ap length same, here.end)) c.make.ensures
+    start (record { serves = here.serves; pages = here.pages }) (omega (arith, c.in-Ok-append.ensures.end, ap length same, here.end))
+    c.make.new.self c.make.result c.make.ensures.makes
 
 pub returns-in-Err-Full-clause-submits : goal.returns-in-Err-Full-clause-submits
 returns-in-Err-Full-clause-submits g c = λ s request serves is.
@@ -39,7 +38,7 @@ returns-in-Err-Full-clause-submits g c = λ s request serves is.
     let why = ap (λ (e : AppendFault). let r : Result ℕ AppendFault = Err e in r) c.in-Err-Full.field-0-is in
     let full : 2 ^ 40 < place + 6 + length c.in-Ok.frame = c.in-Err-Full.ensures.full.0 why in
     let start : StoreValue = record { core = c.self.inside.core; end = place; pages = c.self.inside.pages; closed = c.self.inside.closed } in
-    let stays = full_submits old (g.met.D.Disk.laws c.args.disk.now) start s request here c.args.entry.edit is.edit.entry is.edit.outcome
+    let stays = full_unread old (g.met.D.Disk.laws c.args.disk.now) start s request here c.args.entry is
     (omega (arith, full, ap length same, ap length is.body, here.end)) in
     rw (c.in-Err-Full.ensures.untouched why, c.in-Err-Full.ensures.err) stays
 
@@ -53,7 +52,7 @@ returns-clause-submits g c = λ s request serves is.
     let fits : place + 6 + length c.in-Ok.frame ≤ 2 ^ 40 =
     fits_unless (place + 6 + length c.in-Ok.frame) (2 ^ 40)
     (λ more. absurd (cc (c.in-Err-Write.ensures.full.1 more, c.in-Err-Write.field-0-is))) in
-    write_submits s request c.args.entry is old new _ (omega (arith, fits, ap length same, here.end)) c.append.ensures.trace
+    write_unread old new s request c.args.entry is _ (g.met.D.Disk.laws c.append.new.disk) (omega (arith, fits, ap length same, here.end)) c.append.ensures.trace
     (any_moment old new s.bodies place here.end c.in-Ok.frame c.args.entry.body same c.append.ensures.any_moment)
 
 pub returns-in-Ok-append-clause-open : goal.returns-in-Ok-append-clause-open
@@ -63,7 +62,7 @@ returns-in-Ok-append-clause-open g c = λ going.
     let appended = c.in-Ok-append.ensures in
     opened_behind
     (record { core = c.self.inside.core; end = c.append.new.self.end; pages = c.self.inside.pages; closed = c.self.inside.closed })
-    c.make.new.self c.args.entry.edit c.make.result (g.D.Disk.view c.append.new.disk) c.make.ensures going (record {
+    c.make.new.self c.args.entry.edit c.make.result (g.D.Disk.view c.append.new.disk) c.make.ensures.makes going (record {
       unclosed = was.unclosed;
       inside = appended.size;
       ready = ready-grown place c.append.new.self.end (g.D.Disk.view c.args.disk.now) (g.D.Disk.view c.append.new.disk) c.self.inside.pages

@@ -1,10 +1,11 @@
-use Rattle.std.proofs.Common.{ℕ, List, refl, subst}
+use Rattle.std.proofs.Common.{ℕ, List, ap, subst}
 use Rattle.svr_edge.specs.Disk.{IsTornImage, Reads}
 use Rattle.svr_edge.proofs.DiskLemmas.{Leaves-more}
 use Rattle.svr_journal.specs.File.{StandsFor}
 use Rattle.svr_journal.specs.Opening.{opened_bytes}
-use Rattle.svr_core.specs.State.{empty}
-use Rattle.svr_core.proofs.Unposted.{unposted-replayed}
+use Rattle.std.specs.Option.{option_map}
+use Rattle.svr_core.specs.State.{settled}
+use Rattle.svr_core.proofs.Standing.{pages-settled}
 use Rattle.svr_store.proofs.Opened.{found_bodies, keeps, stand_for}
 use Rattle.svr_store.proofs.store.Store.open_store.Goals as goal
 
@@ -15,9 +16,13 @@ returns-clause-ok g c =
     let there = c.in_ok-core.ensures.ok in
     let end = c.replay.new.journal.end in
     record {
-      state = record { served = there.served; bodies = there.bodies };
-      gives = there.gives;
-      serves = record { serves = there.serves; unposted = unposted-replayed empty there.bodies there.served refl there.gives; end = there.at_end };
+      state = record { served = settled there.served; bodies = there.bodies };
+      gives = ap (option_map settled) there.gives;
+      serves = record {
+        serves = c.forget_merge.ensures.forgets there.served there.serves;
+        pages = pages-settled there.bodies there.served there.pages;
+        end = there.at_end;
+      };
       stood = λ bytes reads.
           let now : Reads mid (opened_bytes bytes) = c.in_ok-journal.ensures.content bytes reads in
           stand_for (opened_bytes bytes) end (there.closed (opened_bytes bytes) now) there.bodies (c.in_ok-journal.ensures.answer bytes reads)

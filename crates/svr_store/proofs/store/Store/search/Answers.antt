@@ -8,8 +8,8 @@ returns-clause-submits g c = λ s request serves is.
     let here = rw (← c.self.view_is) at serves in
     let inside = c.self.inside in
     let store : StoreValue = record { core = inside.core; end = inside.journal.end; pages = inside.pages; closed = inside.closed } in
-    search_submits (g.D.Disk.view c.args.disk.now) _ (g.met.D.Disk.laws _) store _ s request here
-    (record { serves = here.serves; unposted = here.unposted; end = here.end }) c.args.query.now is c.find.result (search rules)
+    (search_submits (g.D.Disk.view c.args.disk.now) _ (g.met.D.Disk.laws _) store _ s request here
+    (record { serves = here.serves; pages = here.pages; end = here.end }) c.args.query.now is c.find.result (search rules)).submits
 
 pub returns-clause-closed : goal.returns-clause-closed
 returns-clause-closed g c =

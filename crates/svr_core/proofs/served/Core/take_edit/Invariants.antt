@@ -1,4 +1,4 @@
-use Rattle.svr_core.proofs.served.Core.make.Given as goal
+use Rattle.svr_core.proofs.served.Core.take_edit.Given as goal
 
 -- the ledger of the blank
 abbrev pub ghosts-edited : goal.ghosts-edited
