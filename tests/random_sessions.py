@@ -3,8 +3,8 @@
 
 Run it with the program's path and how many sessions: tests/random_sessions.py crates/svr/out/svr 500
 Each session is cut at a random place: the program ends there, and starts again with the file that it left. Steps of merges stand at random
-places between the other requests, and a few sessions are over many documents, so that lists have several pages. Each session is also played
-without its merges, and must then find the same hits.
+places between the other requests, and a few sessions are over many documents, so that lists have several pages, of which as many are cached as
+was drawn at each start. Each session is also played without its merges, and must then find the same hits.
 
 The model keeps rows in dictionaries and computes every score anew from all rows, by the words of docs/REFERENCE.md; where documents are listed
 it keeps as a key for each, and as one set of the triples that were published. It knows texts of words in ASCII alone. Where a reply differs,
@@ -400,13 +400,19 @@ def line(request):
     return json.dumps(request, separators=(",", ":")) + "\n"
 
 
-def replies_to(program, parts):
+def some_words(chance):
+    """The words of the command line: how many pages are cached changes no reply."""
+    pages = chance.choice([None, 0, 1, 2, 3, 16, 65536])
+    return ["serve"] if pages is None else ["serve", "--cache", str(pages)]
+
+
+def replies_to(program, chance, parts):
     """The replies of runs over one file, one for each part of the requests: each starts with what the one before it has left."""
     replies = []
     with tempfile.TemporaryDirectory(dir=MEMORY) as folder:
         for part in parts:
             text = "".join(part).encode()
-            done = subprocess.run([program, "serve"], input=text, capture_output=True, check=True, cwd=folder)
+            done = subprocess.run([program, *some_words(chance)], input=text, capture_output=True, check=True, cwd=folder)
             replies += [json.loads(reply) for reply in done.stdout.splitlines()]
     return replies
 
@@ -439,16 +445,17 @@ def hits_in(replies):
 
 
 def differs(program, seed):
-    requests, wanted, stop = some_session(random.Random(seed))
+    chance = random.Random(seed)
+    requests, wanted, stop = some_session(chance)
     parts = requests[:stop], requests[stop:]
-    replies = replies_to(program, parts)
+    replies = replies_to(program, chance, parts)
     for place, (reply, told) in enumerate(zip(replies, wanted)):
         if reply != told:
             print("".join(requests[: place + 1]), f"seed {seed}: {reply} in place of {told}", sep="")
             if place >= stop:
                 print(f"the program was started again behind {stop} requests")
             return True, place
-    if hits_in(replies_to(program, map(without_merges, parts))) != hits_in(replies):
+    if hits_in(replies_to(program, chance, map(without_merges, parts))) != hits_in(replies):
         print("".join(requests), f"seed {seed}: without its merges the session finds other hits", sep="")
         return True, len(wanted)
     return len(replies) != len(wanted), len(wanted)

@@ -1,9 +1,9 @@
 //! `svr`: serves requests from standard input, with replies to standard output, over the journal in the file `svr.db`.
 #![tactic(auto)]
 
-ghost use Rattle.std.specs.Prelude.{◌≡◌, ◌⊎◌, ◌↔◌, false, map, string_bytes};
+ghost use Rattle.std.specs.Prelude.{◌≡◌, ◌⊎◌, None, map, string_bytes};
 ghost use Rattle.std.specs.Process.{exit_status};
-ghost use Rattle.svr_serve.specs.Program.{Carried, HasCause, SendsAll, Unopened, asks_to_serve, streams};
+ghost use Rattle.svr_serve.specs.Program.{Carried, HasCause, SendsAll, Unopened, cache_in, streams};
 
 use std::alloc::Global;
 use std::fs::Files;
@@ -34,12 +34,13 @@ fn run<S: Source, O: Sink, D: Disk>(
     output: &mut O,
     disk: &mut D,
 ) -> ExitCode
-    ensures words { exit_status result ≡ 2 ↔ (asks_to_serve (map string_bytes words.now) ≡ false) }
+    ensures words { exit_status result ≡ 2 → cache_in (map string_bytes words.now) ≡ None }
+    ensures none { cache_in (map string_bytes words.now) ≡ None → (exit_status result ≡ 2) ⊎ (exit_status result ≡ 7) }
     ensures ends { Unopened (exit_status result)
         (streams (S.left input.old) (S.faults input.old) (O.taken output.old) (O.sent output.old) (O.faults output.old))
         (streams (S.left input.new) (S.faults input.new) (O.taken output.new) (O.sent output.new) (O.faults output.new))
         (D.view disk.old) (D.view disk.new)
-        ⊎ Carried (exit_status result)
+        ⊎ Carried (map string_bytes words.now) (exit_status result)
         (streams (S.left input.old) (S.faults input.old) (O.taken output.old) (O.sent output.old) (O.faults output.old))
         (streams (S.left input.new) (S.faults input.new) (O.taken output.new) (O.sent output.new) (O.faults output.new))
         (D.view disk.old) (D.view disk.new) }

@@ -1,9 +1,8 @@
--- What was written, stored and sent in the end, and why it ended so, by how serving ended.
-use Rattle.std.proofs.Common.{◌≡◌, ◌⊎◌, ◌==◌, ℕ, ◌≤◌, List, [], ◌∷◌, ◌++◌, if◌then◌else◌, Option}
+-- What was written, stored and sent in the end, by how serving ended.
+use Rattle.std.proofs.Common.{◌≡◌, ◌⊎◌, ◌==◌, ℕ, ◌≤◌, List, [], ◌∷◌, ◌++◌, if◌then◌else◌, Option, Some}
 use Rattle.std.proofs.Common.{inl, inr, refl, sym, ap, ◌∙◌, subst, arith, append-nil, Contains}
 use Rattle.std.specs.Io.KnownBytes.{Appends}
 use Rattle.std.proofs.KnownBytes.{Appends-trans}
-use Rattle.svr_edge.specs.Causes.{Rose}
 use Rattle.svr_edge.specs.Disk.{DiskView, Leaves, Reads}
 use Rattle.svr_edge.proofs.CausesLemmas.{Rose-earlier}
 use Rattle.svr_edge.proofs.DiskLemmas.{Leaves-refl}
@@ -12,9 +11,9 @@ use Rattle.svr_store.specs.Opening.{IsNoJournal}
 use Rattle.svr_serve.specs.declared.ending.Ending.{Ending}
 use Rattle.svr_serve.specs.declared.ending.Ending.TheVariants.{Complete, Cut, Words, Input, Output, Write, Device, Journal, Memory, Bytes}
 use Rattle.svr_serve.specs.Layout.{line_of_ending, status_of}
-use Rattle.svr_serve.specs.Program.{Carried, HasCause, IsHalfMade, IsPrefix, SendsAll, Streams, Unopened, WritesBehind}
-use Rattle.svr_serve.specs.Program.{WritesFault, WritesPart, fault_line, lines_of, opening_line, streams}
-use Rattle.svr_serve.specs.Ran.{EndsBecause, EndsServing, OpeningStops, Serving, StaysClosed}
+use Rattle.svr_serve.specs.Program.{Carried, IsHalfMade, IsPrefix, Streams, Unopened, WritesBehind}
+use Rattle.svr_serve.specs.Program.{WritesFault, WritesPart, cache_in, fault_line, lines_of, opening_line, streams}
+use Rattle.svr_serve.specs.Ran.{EndsBecause, EndsServing, OpeningStops, Serving, StaysClosed, StopsAtWords}
 
 -- ---- statuses
 
@@ -86,18 +85,16 @@ front_of_none : (front : List ℕ) → IsPrefix front [] → front ≡ []
 front_of_none [] p = refl
 front_of_none (x ∷ front) p = cc
 
--- ---- behind serving
+-- ---- turns were carried
 
 module _ (e : Ending) (start mid : Streams) (old new : DiskView) (taken sent : Option (List ℕ)) (failed : ℕ) (line : List ℕ)
     (q : Appends mid.taken taken line) (fault : WritesFault (line_of_ending e) mid.failed_writes failed line)
-    (because : EndsBecause e start mid old new) (later : mid.failed_writes ≤ failed) where
+    (because : EndsBecause e start mid old new) where
   abbrev after : Streams
   after = streams mid.left mid.failed_reads taken sent failed
 
   fault_since : WritesFault (line_of_ending e) start.failed_writes failed line
   fault_since = WritesFault-earlier (line_of_ending e) line start.failed_writes mid.failed_writes failed because.later fault
-
-  -- ---- turns were carried
 
   module _ (s : Serving e start mid old new) where
     lines_on : (status_of e ≡ 4 → ⊥) → WritesBehind (lines_of s.turns) (fault_line (status_of e)) start after
@@ -119,8 +116,10 @@ module _ (e : Ending) (start mid : Streams) (old new : DiskView) (taken sent : O
               (Appends-trans start.taken mid.taken taken p.0 line p.2 q),
         )
 
-    pub carried : Carried (status_of e) start after old new
-    carried = record {
+    carried : (words : List (List ℕ)) (cache : ℕ) → cache_in words ≡ Some cache → Carried words (status_of e) start after old new
+    carried words cache asked = record {
+      cache = cache;
+      asked = asked;
       opening = s.opening;
       turns = s.turns;
       statuses = serving_among e s.ran.serving;
@@ -136,144 +135,84 @@ module _ (e : Ending) (start mid : Streams) (old new : DiskView) (taken sent : O
       recovers = s.recovers;
     }
 
-  -- ---- nothing was read
+-- ---- no request was read
 
-  module _ (same : mid ≡ start) where
-    line_alone : (whole : List ℕ) → line_of_ending e ≡ whole → WritesBehind [] whole start after
-    line_alone whole is = (
-      line,
-      subst (λ (w : List ℕ). WritesFault w start.failed_writes failed line) is fault_since,
-      subst (λ (s : Streams). Appends s.taken taken line) same q,
-    )
-
-    unread : after.left ≡ start.left
-    unread = ap (λ (s : Streams). s.left) same
-
-  pub why : HasCause (status_of e) start after
-  why = record {
-    cut = λ h. because.cut (ended_as e 1 h (λ is. cc) (λ is. cc));
-    input = λ h. because.input (ended_as e 3 h (λ is. cc) (λ is. cc));
-    output = λ h.
-        let rose = because.output (ended_as e 4 h (λ is. cc) (λ is. cc)) in
-        omega (arith, rose, later);
-    bytes = λ h. because.bytes (ended_as e 8 h (λ is. cc) (λ is. cc));
-    before_limit = λ h. because.before_limit (elim h [
-      | inl zero ↦ inl (ended_as e 0 zero (λ is. cc) (λ is. cc))
-      | inr other ↦ elim other [
-        | inl one ↦ inr (inl (ended_as e 1 one (λ is. cc) (λ is. cc)))
-        | inr three ↦ inr (inr (ended_as e 3 three (λ is. cc) (λ is. cc)))
-      ]
-    ]);
-  }
-
-  pub sends : (mid.sent ≡ mid.taken → (sent ≡ taken) ⊎ Rose mid.failed_writes failed) → SendsAll start after
-  sends on first = elim (because.sent first) [
-    | inl all ↦ elim (on all) [
-      | inl now ↦ inl now
-      | inr rose ↦ inr (Rose-earlier start.failed_writes mid.failed_writes failed because.later rose)
-    ]
-    | inr rose ↦ inr (omega (arith, rose, later))
-  ]
-
--- no request was read
 module _ (start mid : Streams) (old new : DiskView) (taken sent : Option (List ℕ)) (failed : ℕ) (line : List ℕ)
-    (q : Appends mid.taken taken line) (later : mid.failed_writes ≤ failed) (same : mid ≡ start) (images : Leaves old new (IsHalfMade old)) where
+    (q : Appends mid.taken taken line) (same : mid ≡ start) (images : Leaves old new (IsHalfMade old)) where
   abbrev ending : Streams
   ending = streams mid.left mid.failed_reads taken sent failed
 
-  unopened_so : (status at : ℕ) (e : Ending) → WritesFault (line_of_ending e) mid.failed_writes failed line → EndsBecause e start mid old new
-      → line_of_ending e ≡ opening_line status at → Contains (2 ∷ 5 ∷ 6 ∷ 7 ∷ []) status
+  unopened_so : (status at : ℕ) → WritesFault (opening_line status at) start.failed_writes failed line → Contains (2 ∷ 5 ∷ 6 ∷ 7 ∷ []) status
       → ((status ≡ 2) ⊎ (status ≡ 6) → (bytes : List ℕ) → Reads old bytes → Reads new bytes) → (status ≡ 5 → AnyRose old new)
       → (status ≡ 6 → (bytes : List ℕ) → Reads old bytes → IsNoJournal (opened_bytes bytes) at)
       → Unopened status start ending old new
-  unopened_so status at e fault because is among unchanged device journal = record {
+  unopened_so status at fault among unchanged device journal = record {
     at = at;
     statuses = among;
-    unread = unread e start mid old new taken sent failed line q fault because later same;
-    line = line_alone e start mid old new taken sent failed line q fault because later same (opening_line status at) is;
+    unread = ap (λ (s : Streams). s.left) same;
+    line = (line, fault, subst (λ (s : Streams). Appends s.taken taken line) same q);
     images = images;
     unchanged = unchanged;
     device = device;
     journal = journal;
   }
 
-  pub unopened : (e : Ending) → WritesFault (line_of_ending e) mid.failed_writes failed line → EndsBecause e start mid old new
-      → OpeningStops e old new → Unopened (status_of e) start ending old new
-  unopened Device fault because stops = unopened_so 5 0 Device fault because refl (1, omega arith, refl)
-      (λ h. elim h [ inl x ↦ cc | inr x ↦ cc ]) (λ h. stops) (λ h. cc)
-  unopened (Journal at) fault because stops = unopened_so 6 at (Journal at) fault because refl (2, omega arith, refl)
+  -- the disk couldn't be opened
+  unopened : (e : Ending) → WritesFault (line_of_ending e) start.failed_writes failed line → OpeningStops e old new
+      → Unopened (status_of e) start ending old new
+  unopened Device fault stops = unopened_so 5 0 fault (1, omega arith, refl) (λ h. elim h [ inl x ↦ cc | inr x ↦ cc ]) (λ h. stops) (λ h. cc)
+  unopened (Journal at) fault stops = unopened_so 6 at fault (2, omega arith, refl)
       (λ h bytes reads. (stops bytes reads).1) (λ h. cc) (λ h bytes reads. (stops bytes reads).0)
-  unopened Memory fault because stops = unopened_so 7 0 Memory fault because refl (3, omega arith, refl)
-      (λ h. elim h [ inl x ↦ cc | inr x ↦ cc ]) (λ h. cc) (λ h. cc)
-  unopened Complete fault because stops = absurd stops
-  unopened Cut fault because stops = absurd stops
-  unopened Words fault because stops = absurd stops
-  unopened Input fault because stops = absurd stops
-  unopened Output fault because stops = absurd stops
-  unopened Write fault because stops = absurd stops
-  unopened Bytes fault because stops = absurd stops
+  unopened Memory fault stops = unopened_so 7 0 fault (3, omega arith, refl) (λ h. elim h [ inl x ↦ cc | inr x ↦ cc ]) (λ h. cc) (λ h. cc)
+  unopened Complete fault stops = absurd stops
+  unopened Cut fault stops = absurd stops
+  unopened Words fault stops = absurd stops
+  unopened Input fault stops = absurd stops
+  unopened Output fault stops = absurd stops
+  unopened Write fault stops = absurd stops
+  unopened Bytes fault stops = absurd stops
 
--- nothing was done
-pub still_because : (e : Ending) (s : Streams) (d : DiskView) (new : DiskView) → (e ≡ Complete → ⊥) → (e ≡ Cut → ⊥) → (e ≡ Input → ⊥)
-    → (e ≡ Output → ⊥) → (e ≡ Write → ⊥) → (e ≡ Bytes → ⊥) → EndsBecause e s s d new
-still_because e s d new complete cut input output write bytes = record {
-  sent = λ first. inl first;
-  later = omega arith;
-  cut = λ is. absurd (cut is);
-  input = λ is. absurd (input is);
-  output = λ is. absurd (output is);
-  write = λ is. absurd (write is);
-  bytes = λ is. absurd (bytes is);
-  before_limit = λ by. elim by [ inl is ↦ absurd (complete is) | inr other ↦ elim other [ inl is ↦ absurd (cut is) | inr is ↦ absurd (input is) ] ];
-}
+-- the words weren't read, or don't ask to serve
+module _ (words : List (List ℕ)) (start : Streams) (d : DiskView) (taken sent : Option (List ℕ)) (failed : ℕ) (line : List ℕ)
+    (q : Appends start.taken taken line) where
+  abbrev at_words : Streams
+  at_words = streams start.left start.failed_reads taken sent failed
 
--- a disk that couldn't be opened
-pub closed_because : (e : Ending) (s : Streams) (old new : DiskView) → OpeningStops e old new → EndsBecause e s s old new
-closed_because Device s old new stops = still_because Device s old new (λ is. cc) (λ is. cc) (λ is. cc) (λ is. cc) (λ is. cc) (λ is. cc)
-closed_because (Journal at) s old new stops = still_because (Journal at) s old new (λ is. cc) (λ is. cc) (λ is. cc) (λ is. cc) (λ is. cc) (λ is. cc)
-closed_because Memory s old new stops = still_because Memory s old new (λ is. cc) (λ is. cc) (λ is. cc) (λ is. cc) (λ is. cc) (λ is. cc)
-closed_because Complete s old new stops = absurd stops
-closed_because Cut s old new stops = absurd stops
-closed_because Words s old new stops = absurd stops
-closed_because Input s old new stops = absurd stops
-closed_because Output s old new stops = absurd stops
-closed_because Write s old new stops = absurd stops
-closed_because Bytes s old new stops = absurd stops
+  unread : (e : Ending) → WritesFault (line_of_ending e) start.failed_writes failed line → StopsAtWords e words
+      → Unopened (status_of e) start at_words d d
+  unread Words fault stops = unopened_so start start d d taken sent failed line q refl (Leaves-refl d (IsHalfMade d)) 2 0 fault
+      (0, omega arith, refl) (λ h bytes reads. reads) (λ h. cc) (λ h. cc)
+  unread Memory fault stops = unopened start start d d taken sent failed line q refl (Leaves-refl d (IsHalfMade d)) Memory fault tt
+  unread Complete fault stops = absurd stops
+  unread Cut fault stops = absurd stops
+  unread Input fault stops = absurd stops
+  unread Output fault stops = absurd stops
+  unread Write fault stops = absurd stops
+  unread Device fault stops = absurd stops
+  unread (Journal at) fault stops = absurd stops
+  unread Bytes fault stops = absurd stops
 
--- the words have no reading
-pub unread_words : (start : Streams) (d : DiskView) (taken sent : Option (List ℕ)) (failed : ℕ) (line : List ℕ)
-    → Appends start.taken taken line → WritesFault (opening_line 2 0) start.failed_writes failed line → start.failed_writes ≤ failed
-    → Unopened 2 start (streams start.left start.failed_reads taken sent failed) d d
-unread_words start d taken sent failed line q fault later = unopened_so start start d d taken sent failed line q later refl
-    (Leaves-refl d (IsHalfMade d)) 2 0 Words fault
-    (still_because Words start d d (λ is. cc) (λ is. cc) (λ is. cc) (λ is. cc) (λ is. cc) (λ is. cc)) refl (0, omega arith, refl)
-    (λ h bytes reads. reads) (λ h. cc) (λ h. cc)
+  pub unread_by : (status : ℕ) (e : Ending) → status ≡ status_of e → WritesFault (line_of_ending e) start.failed_writes failed line
+      → StopsAtWords e words → Unopened status start at_words d d
+  unread_by status e is fault stops = subst (λ (n : ℕ). Unopened n start at_words d d) (sym is) (unread e fault stops)
 
--- by the way that serving ended
+-- ---- by the way that serving ended
+
 module _ (status : ℕ) (e : Ending) (start mid : Streams) (old new : DiskView) (taken sent : Option (List ℕ)) (failed : ℕ) (line : List ℕ)
     (is : status ≡ status_of e) (q : Appends mid.taken taken line) (fault : WritesFault (line_of_ending e) mid.failed_writes failed line)
-    (because : EndsBecause e start mid old new) (later : mid.failed_writes ≤ failed) where
+    (because : EndsBecause e start mid old new) where
   abbrev finished : Streams
   finished = streams mid.left mid.failed_reads taken sent failed
 
-  pub ends_by : StaysClosed e start mid old new ⊎ Serving e start mid old new → Unopened status start finished old new ⊎ Carried status start finished old new
-  ends_by by = elim by [
+  pub ends_by : (words : List (List ℕ)) (cache : ℕ) → cache_in words ≡ Some cache → StaysClosed e start mid old new ⊎ Serving e start mid old new
+      → Unopened status start finished old new ⊎ Carried words status start finished old new
+  ends_by words cache asked by = elim by [
     | inl s ↦ inl (subst (λ (n : ℕ). Unopened n start finished old new) (sym is)
-        (unopened start mid old new taken sent failed line q later s.streams s.images e fault because s.stops))
-    | inr s ↦ inr (subst (λ (n : ℕ). Carried n start finished old new) (sym is)
-        (carried e start mid old new taken sent failed line q fault because later s))
+        (unopened start mid old new taken sent failed line q s.streams s.images e
+        (fault_since e start mid old new taken sent failed line q fault because) s.stops))
+    | inr s ↦ inr (subst (λ (n : ℕ). Carried words n start finished old new) (sym is)
+        (carried e start mid old new taken sent failed line q fault because s words cache asked))
   ]
-
-  pub cause_by : HasCause status start finished
-  cause_by = subst (λ (n : ℕ). HasCause n start finished) (sym is) (why e start mid old new taken sent failed line q fault because later)
-
-  pub words_by : StaysClosed e start mid old new ⊎ Serving e start mid old new → status ≡ 2 → ⊥
-  words_by by two =
-      let words : e ≡ Words = ended_as e 2 (sym is ∙ two) (λ five. cc) (λ six. cc) in
-      elim by [
-        | inl s ↦ subst (λ (x : Ending). OpeningStops x old new) words s.stops
-        | inr s ↦ subst EndsServing words s.ran.serving
-      ]
 
 -- the same causes, from before the disk was opened
 pub because_earlier : (e : Ending) (start mid : Streams) (old opened new : DiskView) → old.write_faults ≤ opened.write_faults

@@ -15,6 +15,8 @@ use Rattle.svr_request.specs.declared.refusal.Refusal.{Refusal}
 use Rattle.svr_request.specs.Requests.{Submitted, Wanted}
 use Rattle.svr_store.specs.declared.store.Closed.{Closed}
 use Rattle.svr_store.specs.declared.store.Closed.TheVariants as closed
+use Rattle.svr_words.specs.declared.fault.WordsFault.{WordsFault}
+use Rattle.svr_words.specs.declared.fault.WordsFault.TheVariants as words
 use Rattle.svr_serve.specs.declared.ending.Ending.{Ending}
 use Rattle.svr_serve.specs.declared.ending.Ending.TheVariants as ending
 use Rattle.svr_serve.specs.Input.{block_before, block_size, cut, last, line_request, parts_of, whole, whole_requests}
@@ -49,6 +51,10 @@ line_of_ending ending.Bytes = fault_line 8
 abbrev pub HasNoNumber : Ending → Type 0
 HasNoNumber (ending.Journal at) = ⊥
 HasNoNumber _ = ⊤
+
+abbrev pub ending_of_words : WordsFault → Ending
+ending_of_words words.NoReading = ending.Words
+ending_of_words words.Memory = ending.Memory
 
 abbrev pub ending_of : InputStop → Ending
 ending_of stop.Input = ending.Input

@@ -1,9 +1,8 @@
 -- What the program does, by the status that it ends with.
-use Rattle.std.specs.Prelude.{◌≡◌, ◌⊎◌, ◌<◌, ◌^◌, ℕ, ◌==◌, Bool, true, false, List, [], ◌∷◌}
-use Rattle.std.specs.Prelude.{◌++◌, length, take, map, flat_map, codes, if◌then◌else◌, Option, IfSome, Some, Contains}
+use Rattle.std.specs.Prelude.{◌≡◌, ◌⊎◌, ◌<◌, ◌^◌, ℕ, ◌==◌, true, false, List, [], ◌∷◌}
+use Rattle.std.specs.Prelude.{◌++◌, length, take, map, flat_map, codes, if◌then◌else◌, Option, IfSome, Some, None, option_and_then, Contains}
 use Rattle.std.specs.Fmt.{decimal}
 use Rattle.std.specs.List.{AllByRecursion}
-use Rattle.std.specs.Str.{bytes_eq}
 use Rattle.std.specs.Io.KnownBytes.{Appends, Consumes, IsAtEnd}
 use Rattle.svr_edge.specs.Causes.{Rose}
 use Rattle.svr_edge.specs.Disk.{DiskView, IsImage, IsTornImage, Leaves, Reads}
@@ -19,12 +18,19 @@ use Rattle.svr_request.specs.declared.reply.Reply.TheVariants.{Faulted}
 use Rattle.svr_request.specs.Replies.{text_of}
 use Rattle.svr_request.specs.Requests.{Submitted}
 use Rattle.svr_store.specs.Opening.{IsNoJournal, StoodFor, StoodForState}
+use Rattle.svr_words.specs.Words.{words_in}
+use Rattle.svr_words.specs.declared.words.Words.{Words}
+use Rattle.svr_words.specs.declared.words.Words.TheVariants.{Serve}
 use Rattle.svr_serve.specs.Input.{ends_in_block, requests_of, whole_requests}
 
--- the words, the program's name first, ask to serve
-abbrev pub asks_to_serve : List (List ℕ) → Bool
-asks_to_serve (program ∷ mode ∷ []) = bytes_eq mode (codes "serve")
-asks_to_serve _ = false
+-- how many pages are to be cached, where this is asked for: to serve
+abbrev pub cache_of : Words → Option ℕ
+cache_of (Serve cache) = Some cache
+cache_of _ = None
+
+-- and where the words, the program's name first, ask to serve
+abbrev pub cache_in : List (List ℕ) → Option ℕ
+cache_in words = option_and_then cache_of (words_in words)
 
 -- the program's streams, as far as they tell: the bytes that are left to be read, those that were taken and those of
 -- them that were sent on their way, and how often each side has failed
@@ -155,8 +161,11 @@ pub record IsFound (disk : DiskView) (opening : State) : Type 0 where
   pub found : (bodies : List (List ℕ)) → StoodFor disk bodies → bodies ≡ opening.bodies
   pub gives : recovered opening.bodies ≡ Some opening.served
 
--- behind turns that were carried from the state that the disk stood for
-pub record Carried (status : ℕ) (before after : Streams) (old new : DiskView) : Type 0 where
+-- behind turns that were carried as the words ask, from the state that the disk stood for
+pub record Carried (words : List (List ℕ)) (status : ℕ) (before after : Streams) (old new : DiskView) : Type 0 where
+  -- how many pages were to be cached
+  pub cache : ℕ
+  pub asked : cache_in words ≡ Some cache
   pub opening : State
   pub turns : List Turn
   pub statuses : Contains (0 ∷ 1 ∷ 3 ∷ 4 ∷ 5 ∷ 7 ∷ 8 ∷ []) status

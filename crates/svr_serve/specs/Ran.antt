@@ -1,5 +1,5 @@
 -- Words of private clauses: how serving ends, before the fault line.
-use Rattle.std.specs.Prelude.{◌≡◌, ◌⊎◌, ◌≤◌, ◌^◌, ℕ, List, ◌++◌, flat_map, take, Some, Result, Ok, Err, ⊤}
+use Rattle.std.specs.Prelude.{◌≡◌, ◌⊎◌, ◌≤◌, ◌^◌, ℕ, List, ◌++◌, flat_map, take, Some, None, Result, Ok, Err, ⊤}
 use Rattle.std.specs.Io.KnownBytes.{Appends}
 use Rattle.svr_core.specs.Replay.{replayed}
 use Rattle.svr_core.specs.Run.{IsRun, Turn, doubtful, kept, reads_of, records_of, state_in_end}
@@ -18,10 +18,16 @@ use Rattle.svr_serve.specs.declared.ending.Ending.TheVariants as ending
 use Rattle.svr_serve.specs.declared.session.Session.{Session}
 use Rattle.svr_serve.specs.Layout.{status_of}
 use Rattle.svr_serve.specs.Program.{Answered, EndsInBlock, EndsWith, GoesOn, IsFound, IsHalfMade, Recovers, SendsAll, Streams}
-use Rattle.svr_serve.specs.Program.{ReadsBehind, Survives, Took, TookLess, WritesPart, lines_of, requests_in}
+use Rattle.svr_serve.specs.Program.{ReadsBehind, Survives, Took, TookLess, WritesPart, cache_in, lines_of, requests_in}
 use Rattle.svr_serve.specs.Turning.{IsNew}
 
 -- ---- before a request was read
+
+-- why words weren't read, or that they don't ask to serve
+abbrev pub StopsAtWords : Ending → List (List ℕ) → Type 0
+StopsAtWords ending.Words words = cache_in words ≡ None
+StopsAtWords ending.Memory words = ⊤
+StopsAtWords _ words = ⊥
 
 -- why a disk couldn't be opened
 abbrev pub OpeningStops : Ending → DiskView → DiskView → Type 0
@@ -30,10 +36,10 @@ OpeningStops (ending.Journal at) old new = (bytes : List ℕ) → Reads old byte
 OpeningStops ending.Memory old new = ⊤
 OpeningStops _ old new = ⊥
 
--- a disk was opened, or not
-abbrev pub OpensSession : Result Session Ending → DiskView → DiskView → Type 0
-OpensSession (Ok session) old new = IsNew session new × Opens old new session.store
-OpensSession (Err e) old new = OpeningStops e old new
+-- a disk was opened, with so many pages to be cached at most; or not
+abbrev pub OpensSession : Result Session Ending → ℕ → DiskView → DiskView → Type 0
+OpensSession (Ok session) cache old new = IsNew session new × (session.store.pages.capacity ≡ cache) × Opens old new session.store
+OpensSession (Err e) cache old new = OpeningStops e old new
 
 -- the disk couldn't be opened; no request was read, and nothing written
 pub record StaysClosed (e : Ending) (before after : Streams) (old new : DiskView) : Type 0 where

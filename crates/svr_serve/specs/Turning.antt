@@ -1,5 +1,5 @@
 -- Words of private clauses: what a turn of the program does.
-use Rattle.std.specs.Prelude.{◌≡◌, ◌⊎◌, ◌<◌, ◌≤◌, ◌^◌, ℕ, false, List, Option}
+use Rattle.std.specs.Prelude.{◌≡◌, ◌⊎◌, ◌<◌, ◌≤◌, ◌^◌, ℕ, false, List, [], Option}
 use Rattle.std.specs.Io.KnownBytes.{Appends}
 use Rattle.svr_core.specs.Run.{closes}
 use Rattle.svr_core.specs.State.{State}
@@ -21,9 +21,10 @@ use Rattle.svr_serve.specs.declared.turn.Turn.TheVariants as turn
 use Rattle.svr_serve.specs.Layout.{EndsInput, StopsReading, TakesRequest}
 use Rattle.svr_serve.specs.Program.{IsPrefix, Streams}
 
--- nothing was read, and the store answers requests
+-- nothing was read, nothing is cached, and the store answers requests
 pub record IsNew (s : Session) (disk : DiskView) : Type 0 where
   pub lines : s.lines ≡ new_reading (2 ^ 40)
+  pub uncached : s.store.pages.pages ≡ []
   pub is_open : IsOpen s.store disk
 
 -- nothing was done to the disk

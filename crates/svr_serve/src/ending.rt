@@ -5,6 +5,7 @@ use svr_edge::Memory;
 use svr_journal::JournalError;
 use svr_lines::InputStop;
 use svr_store::Closed;
+use svr_words::WordsFault;
 
 /// How the program ends.
 #[derive(Clone, Copy, Debug, PartialEq, Eq)]
@@ -13,7 +14,7 @@ pub(crate) enum Ending {
     Complete,
     /// The input ended inside a block.
     Cut,
-    /// The words of the command line have no reading.
+    /// The words of the command line have no reading, or don't ask to serve.
     Words,
     /// The source failed.
     Input,
@@ -25,10 +26,24 @@ pub(crate) enum Ending {
     Device,
     /// The disk is no journal: this place is at fault.
     Journal(u64),
-    /// Memory was wanting before a line could be read as a request, or behind the record of a change.
+    /// Memory was wanting before the words or a line could be read, or behind the record of a change.
     Memory,
     /// As many bytes were read as may be.
     Bytes,
+}
+
+impl From<WordsFault> for Ending {
+    ghost use Rattle.std.specs.Prelude.{◌≡◌};
+    ghost use Rattle.svr_serve.specs.Layout.{ending_of_words};
+
+    ghost from_gives = { λ fault ending. ending ≡ ending_of_words fault };
+
+    fn from(fault: WordsFault) -> Ending {
+        match fault {
+            WordsFault::NoReading => Ending::Words,
+            WordsFault::Memory => Ending::Memory,
+        }
+    }
 }
 
 impl From<InputStop> for Ending {

@@ -1,8 +1,8 @@
-ghost use Rattle.std.specs.Prelude.{◌≡◌, ◌⊎◌, ◌↔◌, false, map, string_bytes};
+ghost use Rattle.std.specs.Prelude.{◌≡◌, ◌⊎◌, Some, None, IfOk, IfErr, map, string_bytes};
 ghost use Rattle.svr_core.specs.State.{State};
 ghost use Rattle.svr_store.specs.Store.{Serves};
-ghost use Rattle.svr_serve.specs.Program.{Carried, HasCause, SendsAll, Unopened, asks_to_serve, streams};
-ghost use Rattle.svr_serve.specs.Ran.{Carries, EndsBecause, Serving, StaysClosed};
+ghost use Rattle.svr_serve.specs.Program.{Carried, HasCause, SendsAll, Unopened, cache_in, streams};
+ghost use Rattle.svr_serve.specs.Ran.{Carries, EndsBecause, Serving, StaysClosed, StopsAtWords};
 ghost use Rattle.svr_serve.specs.Turning.{IsNew};
 
 use crate::ending::Ending;
@@ -11,6 +11,7 @@ use crate::session::Session;
 use crate::turn::{Turn, serve_one};
 use std::alloc::Global;
 use svr_edge::{Disk, Sink, Source};
+use svr_words::{Words, read_words};
 
 /// Carries turns until the input ends or the program can't go on.
 fn serve_turns<S: Source, O: Sink, D: Disk>(
@@ -39,9 +40,10 @@ fn serve_turns<S: Source, O: Sink, D: Disk>(
     }
 }
 
-/// Takes the room, opens the store of the disk, and serves.
+/// Takes the room, opens the store of the disk, which caches so many pages at most, and serves.
 fn serve<S: Source, O: Sink, D: Disk>(
     alloc: Global,
+    cache: u32,
     input: &mut S,
     output: &mut O,
     disk: &mut D,
@@ -59,31 +61,34 @@ fn serve<S: Source, O: Sink, D: Disk>(
         (streams (S.left input.new) (S.faults input.new) (O.taken output.new) (O.sent output.new) (O.faults output.new))
         (D.view disk.old) (D.view disk.new) }
 {
-    match Session::open(alloc, disk) {
+    match Session::open(alloc, disk, cache) {
         Ok(mut session) => serve_turns(alloc, &mut session, input, output, disk),
         Err(ending) => ending,
     }
 }
 
-/// Whether the words of the command line, the program's name first, ask to serve.
-fn is_serve(words: &[String]) -> bool
-    ensures { result ≡ asks_to_serve (map string_bytes words.now) }
+/// How many pages are to be cached, where the words of the command line, the program's name first, ask to serve.
+fn read_cache(alloc: Global, words: &[String]) -> Result<u32, Ending>
+    ensures asked { IfOk result (λ cache. cache_in (map string_bytes words.now) ≡ Some cache) }
+    ensures stop { IfErr result (λ ending. StopsAtWords ending (map string_bytes words.now)) }
 {
-    match words {
-        [_, mode] => mode.as_str() == "serve",
-        _ => false,
+    match read_words(alloc, words)? {
+        Words::Serve { cache } => Ok(cache),
+        // They are read, and not served as yet.
+        Words::Check { .. } | Words::Gen { .. } => Err(Ending::Words),
     }
 }
 
 /// The program: opens the journal of `disk`, reads lines of requests from `input`, and writes a line of reply to each to
 /// `output`. A line of nothing but blanks is passed over. Each change is a record of the journal before it is answered.
-/// Answers the status that it ends with.
+/// Answers the status that it ends with. The words are those of the command line, the program's name first: `svr_words` reads
+/// them, and how many pages are cached.
 ///
 /// | status | when | written behind the replies |
 /// |---|---|---|
 /// | 0 | the input was read to its end | nothing |
 /// | 1 | the input ended inside a block; that request isn't answered | `{"fault":"cut"}` |
-/// | 2 | the words aren't the program's name and `serve`; nothing is read | `{"fault":"words"}` |
+/// | 2 | the words have no reading, or don't ask to serve; nothing is read | `{"fault":"words"}` |
 /// | 3 | the source failed | `{"fault":"input"}` |
 /// | 4 | the sink failed; the last reply may be cut | nothing |
 /// | 5 | the disk failed when it was opened; nothing is read | `{"fault":"device"}` |
@@ -102,12 +107,13 @@ pub fn svr<S: Source, O: Sink, D: Disk>(
     output: &mut O,
     disk: &mut D,
 ) -> u8
-    ensures words { result ≡ 2 ↔ (asks_to_serve (map string_bytes words.now) ≡ false) }
+    ensures words { result ≡ 2 → cache_in (map string_bytes words.now) ≡ None }
+    ensures none { cache_in (map string_bytes words.now) ≡ None → (result ≡ 2) ⊎ (result ≡ 7) }
     ensures ends { Unopened result
         (streams (S.left input.old) (S.faults input.old) (O.taken output.old) (O.sent output.old) (O.faults output.old))
         (streams (S.left input.new) (S.faults input.new) (O.taken output.new) (O.sent output.new) (O.faults output.new))
         (D.view disk.old) (D.view disk.new)
-        ⊎ Carried result
+        ⊎ Carried (map string_bytes words.now) result
         (streams (S.left input.old) (S.faults input.old) (O.taken output.old) (O.sent output.old) (O.faults output.old))
         (streams (S.left input.new) (S.faults input.new) (O.taken output.new) (O.sent output.new) (O.faults output.new))
         (D.view disk.old) (D.view disk.new) }
@@ -118,9 +124,11 @@ pub fn svr<S: Source, O: Sink, D: Disk>(
         (streams (S.left input.old) (S.faults input.old) (O.taken output.old) (O.sent output.old) (O.faults output.old))
         (streams (S.left input.new) (S.faults input.new) (O.taken output.new) (O.sent output.new) (O.faults output.new)) }
 {
-    if !is_serve(words) {
-        return finish(Ending::Words, output);
+    match read_cache(alloc, words) {
+        Ok(cache) => {
+            let ending = serve(alloc, cache, input, output, disk);
+            finish(ending, output)
+        }
+        Err(ending) => finish(ending, output),
     }
-    let ending = serve(alloc, input, output, disk);
-    finish(ending, output)
 }
