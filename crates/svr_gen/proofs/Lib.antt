@@ -1,0 +1,4 @@
+mod Examples
+mod Following
+mod Loading
+mod Stepping

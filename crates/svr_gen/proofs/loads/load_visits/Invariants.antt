@@ -1,0 +1,8 @@
+use Rattle.std.proofs.Common.{◌≡◌}
+use Rattle.svr_gen.specs.Parts.{numbered}
+use Rattle.svr_gen.specs.Layout.{followed}
+use Rattle.svr_gen.specs.Requests.{visit_row}
+use Rattle.svr_gen.proofs.loads.load_visits.Given as goal
+
+abbrev pub invariant-loop-before : goal.invariant-loop-before
+invariant-loop-before l = l.rows ≡ followed l.initial.rows (numbered visit_row l.before)

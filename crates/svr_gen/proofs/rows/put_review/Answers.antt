@@ -1,0 +1,14 @@
+use Rattle.svr_gen.specs.Requests.{review_row}
+use Rattle.svr_gen.proofs.Following.{followed-in_turn-nil, followed-in_turn-cons}
+use Rattle.svr_gen.proofs.rows.put_review.Goals as goal
+
+pub returns : goal.returns
+unfolding review_row
+returns c = simp (followed-in_turn-cons, followed-in_turn-nil) (
+    rw (
+      c.in_ok-put_one_to-2.ensures,
+      c.in_ok-put-2.ensures,
+      c.in_ok-put_one_to.ensures,
+      c.in_ok-put.ensures,
+      c.in_ok-put_number.ensures,
+    ) at c.put-3.ensures)

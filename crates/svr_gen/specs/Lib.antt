@@ -1,0 +1,4 @@
+pub mod Layout
+pub mod Parts
+pub mod Requests
+pub mod Workload
