@@ -1,11 +1,14 @@
 pub mod Accepted
 pub mod Answered
+pub mod Apart
 pub mod Asked
 pub mod Begun
 pub mod Deleted
 pub mod Edited
+pub mod Lawful
 pub mod Made
 pub mod Planned
+pub mod Reading
 pub mod Recovering
 pub mod Replayed
 pub mod Runs

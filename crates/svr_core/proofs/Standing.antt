@@ -1,5 +1,5 @@
 -- The pages of a listing and of its merge stand in the records that made them.
-use Rattle.std.proofs.Common.{◌≡◌, ◌≤◌, ◌+◌, ◌-◌, ◌*◌, ℕ, zero, suc, Bool, true, false, cond, List, [], ◌∷◌, ◌++◌, length, take, drop}
+use Rattle.std.proofs.Common.{◌≡◌, ◌≤◌, ◌+◌, ◌-◌, ◌*◌, ℕ, zero, suc, Bool, true, false, cond, List, [], ◌∷◌, ◌++◌, length, map, take, drop}
 use Rattle.std.proofs.Common.{Option, Some, None, refl, sym, ap, ◌∙◌, subst, arith, append_assoc, append-nil, length-append, length-drop, leb-true, nat_le}
 use Rattle.std.specs.Prelude.{◌&&◌}
 use Rattle.std.specs.Int.{to_be_bytes, w16, w32}
@@ -30,31 +30,30 @@ use Rattle.svr_record.specs.declared.record.Record.TheVariants as entry
 use Rattle.svr_record.specs.declared.record.TermPages as kept
 use Rattle.svr_record.specs.Bodies.{body_of, term_body}
 use Rattle.svr_record.specs.Grammar.{record_in}
-use Rattle.svr_record.proofs.Parts.{IsBytes}
-use Rattle.svr_record.proofs.Records.{record_in-found}
+use Rattle.svr_record.proofs.Records.{record_in-body_of}
 use Rattle.svr_rows.specs.declared.change.Change.TheVariants.{Insert}
 use Rattle.svr_rows.specs.declared.row.Row.{Row}
 use Rattle.svr_core.specs.declared.plan.Edit.{Edit}
 use Rattle.svr_core.specs.declared.plan.Edit.TheVariants as edit
 use Rattle.svr_core.specs.Edits.{relisted, served_with, slice_with, taken_into, with_taken_terms}
 use Rattle.svr_core.specs.Outcomes.{Outcome, edits, entry_outcome, merges, merges_whole, refused, searches}
-use Rattle.svr_core.specs.Pages.{HavePages, file_of}
+use Rattle.svr_core.specs.Pages.{HavePages, IsSpelled, LieInTurn, PagesStand, TermsStand, file_of, places_in}
 use Rattle.svr_core.specs.Plans.{IsPlain}
-use Rattle.svr_core.specs.Replay.{after_body, after_record, may_publish, pages_place, recovered, replayed, served_after}
+use Rattle.svr_core.specs.Replay.{after_body, after_record, may_publish, pages_place, replayed, served_after}
 use Rattle.svr_core.specs.State.{Served, empty, settled}
 use Rattle.svr_core.proofs.Recovering.{ComesToRows, entry_plain}
 
 -- ---- options and lists
 
-then_some : {A B : Type 0} (o : Option A) (f : A → Option B) (y : B) → option_and_then f o ≡ Some y → (x : A) × ((o ≡ Some x) × (f x ≡ Some y))
+pub then_some : {A B : Type 0} (o : Option A) (f : A → Option B) (y : B) → option_and_then f o ≡ Some y → (x : A) × ((o ≡ Some x) × (f x ≡ Some y))
 then_some {A} {B} None f y h = absurd (let e : ◌≡◌ {A = Option B} None (Some y) = h in cc)
 then_some (Some x) f y h = (x, (refl, h))
 
-map_some : {A B : Type 0} (o : Option A) (f : A → B) (y : B) → option_map f o ≡ Some y → (x : A) × ((o ≡ Some x) × (f x ≡ y))
+pub map_some : {A B : Type 0} (o : Option A) (f : A → B) (y : B) → option_map f o ≡ Some y → (x : A) × ((o ≡ Some x) × (f x ≡ y))
 map_some {A} {B} None f y h = absurd (let e : ◌≡◌ {A = Option B} None (Some y) = h in cc)
 map_some {A} {B} (Some x) f y h = (x, (refl, (let e : ◌≡◌ {A = Option B} (Some (f x)) (Some y) = h in cc)))
 
-if_some : {A : Type 0} (b : Bool) (o : Option A) (y : A) → cond b o None ≡ Some y → o ≡ Some y
+pub if_some : {A : Type 0} (b : Bool) (o : Option A) (y : A) → cond b o None ≡ Some y → o ≡ Some y
 if_some true o y h = h
 if_some {A} false o y h = absurd (let e : ◌≡◌ {A = Option A} None (Some y) = h in cc)
 
@@ -62,7 +61,7 @@ all_map : {A : Type 0} (P Q : A → Type 0) (xs : List A) → ((x : A) → P x �
 all_map P Q [] f h = tt
 all_map P Q (x ∷ xs) f h = (f x h.0, all_map P Q xs f h.1)
 
-all_append : {A : Type 0} (P : A → Type 0) (xs ys : List A) → AllByRecursion P xs → AllByRecursion P ys → AllByRecursion P (xs ++ ys)
+pub all_append : {A : Type 0} (P : A → Type 0) (xs ys : List A) → AllByRecursion P xs → AllByRecursion P ys → AllByRecursion P (xs ++ ys)
 all_append P [] ys h k = k
 all_append P (x ∷ xs) ys h k = (h.0, all_append P xs ys h.1 k)
 
@@ -78,13 +77,20 @@ whole_page pairs fill =
     let more : (nat_le (length pairs) 255 && (list_all is_in_range pairs && are_in_order pairs)) ≡ true = (and_parts _ _ fill).1 in
     length-page_bytes pairs (leb-true (length pairs) 255 (and_parts _ _ more).0)
 
+-- a page that stands in bytes ends there
+page_ends : (told : List ℕ) (page : Page) → StandsIn told page → page.head.at + 4096 ≤ length told
+page_ends told page h =
+    let at = page.head.at in
+    let there : take 4096 (drop at told) ≡ page_bytes page.pairs = sym (bytes_at-is at told) ∙ h.2 in
+    let long : length (take 4096 (drop at told)) ≡ 4096 = ap length there ∙ whole_page page.pairs h.0 in
+    omega (arith, long, length-take 4096 (drop at told), length-drop at told)
+
 -- a page that stands in bytes stands there when more come behind them
 pub stands-longer : (told more : List ℕ) (page : Page) → StandsIn told page → StandsIn (told ++ more) page
 stands-longer told more page h =
     let at = page.head.at in
     let there : take 4096 (drop at told) ≡ page_bytes page.pairs = sym (bytes_at-is at told) ∙ h.2 in
-    let long : length (take 4096 (drop at told)) ≡ 4096 = ap length there ∙ whole_page page.pairs h.0 in
-    let within : at + 4096 ≤ length told = omega (arith, long, length-take 4096 (drop at told), length-drop at told) in
+    let within : at + 4096 ≤ length told = page_ends told page h in
     let most : 4096 ≤ length (drop at told) = omega (arith, within, length-drop at told) in (
       h.0,
       h.1,
@@ -126,10 +132,6 @@ pages-stand told at (suc count) bytes pages there is =
       pages-stand told (at + 4096) count (drop 4096 bytes) rest.0 (sym (drop-drop 4096 at told) ∙ ap (drop 4096) there) rest.1.0,
     )
 
--- each page of these terms stands there
-abbrev TermsStand : List ℕ → List TermPages → Type 0
-TermsStand told terms = AllByRecursion (λ t. AllByRecursion (StandsIn told) t.pages) terms
-
 terms_stand : (told : List ℕ) (at : ℕ) (kept : List kept.TermPages) (bytes : List ℕ) (terms : List TermPages) → drop at told ≡ bytes
     → terms_in at kept bytes ≡ Some terms → TermsStand told terms
 unfolding terms_in
@@ -160,11 +162,74 @@ pages_stand_of told (t ∷ ts) term h =
     by true = h.0
     by false = tt
 
-pages_of_more : (told : List ℕ) (lists terms : List TermPages) (term : List ℕ) → AllByRecursion (StandsIn told) (pages_of lists term)
-    → TermsStand told terms → AllByRecursion (StandsIn told) (pages_of (lists ++ terms) term)
-pages_of_more told lists terms term h k =
-    subst (AllByRecursion (StandsIn told)) (sym (flat_map-append (λ (list : TermPages). cond (bytes_eq term list.term) list.pages []) lists terms))
-    (all_append (StandsIn told) (pages_of lists term) (pages_of terms term) h (pages_stand_of told terms term k))
+-- ---- one behind the other
+
+-- pages at these addresses end before a place
+abbrev EndBefore : ℕ → List ℕ → Type 0
+EndBefore end places = AllByRecursion (λ (at : ℕ). at + 4096 ≤ end) places
+
+lie_on : (from end : ℕ) (places more : List ℕ) → from ≤ end → LieInTurn from places → EndBefore end places → LieInTurn end more
+    → LieInTurn from (places ++ more)
+lie_on from end [] [] up h ends more = tt
+lie_on from end [] (at ∷ rest) up h ends more = (omega (arith, up, more.0), more.1)
+lie_on from end (at ∷ places) more up h ends then = (h.0, lie_on (at + 4096) end places more ends.0 h.1 ends.1 then)
+
+-- so many pages lie one behind the other, and end where the next ones begin
+pages_lie : (at count : ℕ) (bytes : List ℕ) (pages : List Page) → pages_in at count bytes ≡ Some pages
+    → LieInTurn at (map (λ (page : Page). page.head.at) pages) × EndBefore (at + 4096 * count) (map (λ (page : Page). page.head.at) pages)
+unfolding pages_in
+pages_lie at zero bytes pages is =
+    let same : ◌≡◌ {A = List Page} [] pages = let e : ◌≡◌ {A = Option (List Page)} (Some []) (Some pages) = is in cc in
+    subst (λ (ps : List Page). LieInTurn at (map (λ (page : Page). page.head.at) ps) × EndBefore (at + 4096 * 0) (map (λ (page : Page). page.head.at) ps))
+    same (tt, tt)
+pages_lie at (suc count) bytes pages is =
+    let first = then_some (page_in (take 4096 bytes))
+    (λ pairs. option_and_then (page_onto at pairs) (pages_in (at + 4096) count (drop 4096 bytes))) pages is in
+    let rest = then_some (pages_in (at + 4096) count (drop 4096 bytes)) (page_onto at first.0) pages first.1.1 in
+    let made : Some (page_at at first.0 ∷ rest.0) ≡ Some pages =
+    if_some (are_before first.0 rest.0) (Some (page_at at first.0 ∷ rest.0)) pages rest.1.1 in
+    let same : page_at at first.0 ∷ rest.0 ≡ pages = cc in
+    let behind = pages_lie (at + 4096) count (drop 4096 bytes) rest.0 rest.1.0 in
+    let place = ref_at at first.0 in
+    subst (λ (ps : List Page). LieInTurn at (map (λ (page : Page). page.head.at) ps)
+    × EndBefore (at + 4096 * suc count) (map (λ (page : Page). page.head.at) ps)) same (
+      (omega (arith, place), subst (λ (n : ℕ). LieInTurn (n + 4096) (map (λ (page : Page). page.head.at) rest.0)) (sym place) behind.0),
+      (omega (arith, place), subst (λ (n : ℕ). EndBefore n (map (λ (page : Page). page.head.at) rest.0)) (omega arith) behind.1),
+    )
+
+terms_lie : (at : ℕ) (kept : List kept.TermPages) (bytes : List ℕ) (terms : List TermPages) → terms_in at kept bytes ≡ Some terms
+    → LieInTurn at (places_in terms)
+unfolding terms_in
+terms_lie at [] bytes terms is =
+    let same : ◌≡◌ {A = List TermPages} [] terms = let e : ◌≡◌ {A = Option (List TermPages)} (Some []) (Some terms) = is in cc in
+    subst (λ (ts : List TermPages). LieInTurn at (places_in ts)) same tt
+terms_lie at (t ∷ ts) bytes terms is =
+    let first = then_some (pages_in at t.pages bytes)
+    (λ pages. option_map (λ (terms : List TermPages). record { term = t.term; pages = pages } ∷ terms)
+    (terms_in (at + 4096 * t.pages) ts (drop (4096 * t.pages) bytes))) terms is in
+    let rest = map_some (terms_in (at + 4096 * t.pages) ts (drop (4096 * t.pages) bytes))
+    (λ (terms : List TermPages). record { term = t.term; pages = first.0 } ∷ terms) terms first.1.1 in
+    let lie = pages_lie at t.pages bytes first.0 first.1.0 in
+    subst (λ (ts : List TermPages). LieInTurn at (places_in ts)) rest.1.1
+    (lie_on at (at + 4096 * t.pages) (map (λ (page : Page). page.head.at) first.0) (places_in rest.0) (omega arith) lie.0 lie.1
+    (terms_lie (at + 4096 * t.pages) ts (drop (4096 * t.pages) bytes) rest.0 rest.1.0))
+
+-- pages that stand in bytes end there
+pages_end : (told : List ℕ) (pages : List Page) → AllByRecursion (StandsIn told) pages
+    → EndBefore (length told) (map (λ (page : Page). page.head.at) pages)
+pages_end told [] h = tt
+pages_end told (page ∷ pages) h = (page_ends told page h.0, pages_end told pages h.1)
+
+terms_end : (told : List ℕ) (lists : List TermPages) → TermsStand told lists → EndBefore (length told) (places_in lists)
+terms_end told [] h = tt
+terms_end told (list ∷ lists) h =
+    all_append (λ (at : ℕ). at + 4096 ≤ length told) (map (λ (page : Page). page.head.at) list.pages) (places_in lists)
+    (pages_end told list.pages h.0) (terms_end told lists h.1)
+
+-- the pages of one term among them stand there
+pub posted-stand : (bodies : List (List ℕ)) (lists : List TermPages) → PagesStand bodies lists → (term : List ℕ)
+    → AllByRecursion (StandsIn (file_of bodies)) (pages_of lists term)
+posted-stand bodies lists h term = pages_stand_of (file_of bodies) lists term h.each
 
 -- ---- one record more
 
@@ -174,16 +239,20 @@ file_of-more before body =
     ∙ ap (λ (l : List ℕ). flat_map open_record before ++ l) (append-nil (open_record body)))
     ∙ sym (append_assoc magic (flat_map open_record before) (open_record body))
 
-longer : (before : List (List ℕ)) (body : List ℕ) (pages : List Page) → AllByRecursion (StandsIn (file_of before)) pages
-    → AllByRecursion (StandsIn (file_of (before ++ body ∷ []))) pages
-longer before body pages h =
-    subst (λ (told : List ℕ). AllByRecursion (StandsIn told) pages) (sym (file_of-more before body))
-    (all_map (StandsIn (file_of before)) (StandsIn (file_of before ++ open_record body)) pages (stands-longer (file_of before) (open_record body)) h)
+longer : (before : List (List ℕ)) (body : List ℕ) (lists : List TermPages) → PagesStand before lists → PagesStand (before ++ body ∷ []) lists
+longer before body lists h = record {
+  each = subst (λ (told : List ℕ). TermsStand told lists) (sym (file_of-more before body))
+      (all_map (λ (list : TermPages). AllByRecursion (StandsIn (file_of before)) list.pages)
+      (λ (list : TermPages). AllByRecursion (StandsIn (file_of before ++ open_record body)) list.pages) lists
+      (λ list. all_map (StandsIn (file_of before)) (StandsIn (file_of before ++ open_record body)) list.pages
+      (stands-longer (file_of before) (open_record body))) h.each);
+  in_turn = h.in_turn;
+}
 
 pub HavePages-longer : (before : List (List ℕ)) (body : List ℕ) (l : listing.Served) → HavePages before l → HavePages (before ++ body ∷ []) l
 HavePages-longer before body l h = record {
-  posted = λ term. longer before body (pages_of l.listing.lists term) (h.posted term);
-  merged = λ m is term. longer before body (pages_of m.lists term) (h.merged m is term);
+  posted = longer before body l.listing.lists h.posted;
+  merged = λ m is. longer before body m.lists (h.merged m is);
 }
 
 -- pages that end a body stand at its end in the file
@@ -200,6 +269,14 @@ ends_file before body head pages is =
     omega (arith, length-append (file_of before) (1 ∷ (word ++ head)), length-append word head, ap length is, length-append head pages) in
     ap (drop (end_of before + 5 + length body - length pages)) spelled ∙ drop_at front pages (end_of before + 5 + length body - length pages) long
 
+slice_long : (terms : List kept.TermPages) (pages : List ℕ) → length pages ≤ length (body_of (entry.Slice terms pages))
+slice_long terms pages =
+    let count = to_be_bytes w16 (length terms) in
+    let head : List ℕ = count ++ flat_map term_body terms in
+    let spelled : body_of (entry.Slice terms pages) ≡ (5 ∷ head) ++ pages =
+    ap (λ (l : List ℕ). 5 ∷ l) (sym (append_assoc count (flat_map term_body terms) pages)) in
+    omega (arith, ap length spelled, length-append (5 ∷ head) pages)
+
 slice_ends : (before : List (List ℕ)) (terms : List kept.TermPages) (pages : List ℕ)
     → drop (pages_place before terms pages) (file_of (before ++ body_of (entry.Slice terms pages) ∷ [])) ≡ pages
 slice_ends before terms pages =
@@ -211,15 +288,18 @@ slice_ends before terms pages =
 
 module _ (bodies : List (List ℕ)) where
   abbrev MergeHas : Option Merge → Type 0
-  MergeHas o = (m : Merge) → o ≡ Some m → (term : List ℕ) → AllByRecursion (StandsIn (file_of bodies)) (pages_of m.lists term)
+  MergeHas o = (m : Merge) → o ≡ Some m → PagesStand bodies m.lists
+
+  none_stand : PagesStand bodies []
+  none_stand = record { each = tt; in_turn = tt }
 
   no_merge : MergeHas None
-  no_merge m is term = absurd (let e : None ≡ Some m = is in cc)
+  no_merge m is = absurd (let e : None ≡ Some m = is in cc)
 
   touched_has : (o : Option Merge) (before now : List Document) → MergeHas o → MergeHas (option_map (λ m. touched m before now) o)
-  touched_has o before now h m is term =
+  touched_has o before now h m is =
       let old = map_some o (λ m. touched m before now) m is in
-      subst (λ (m : Merge). AllByRecursion (StandsIn (file_of bodies)) (pages_of m.lists term)) old.1.1 (h old.0 old.1.0 term)
+      subst (λ (m : Merge). PagesStand bodies m.lists) old.1.1 (h old.0 old.1.0)
 
   changed_has : (l : listing.Served) (now : List Document) → HavePages bodies l → HavePages bodies (listing.after l (listing.change now))
   changed_has l now h = record { posted = h.posted; merged = touched_has l.merge (documents_of l.listing) now h.merged }
@@ -234,34 +314,46 @@ module _ (bodies : List (List ℕ)) where
   begun_has l None h = h
   begun_has l (Some c) h = record {
     posted = h.posted;
-    merged = λ m is term.
+    merged = λ m is.
         let made = begin (rules_of c) (documents_of l.listing) in
         let same : made ≡ m = let e : Some made ≡ Some m = is in cc in
-        subst (λ (m : Merge). AllByRecursion (StandsIn (file_of bodies)) (pages_of m.lists term)) same tt;
+        subst (λ (m : Merge). PagesStand bodies m.lists) same none_stand;
   }
 
   published_has : (l : listing.Served) → HavePages bodies l → HavePages bodies (listing.after l listing.merge_publish)
   published_has l h = record { posted = by l.merge h.merged; merged = no_merge }
     where
-      by : (o : Option Merge) → MergeHas o → (term : List ℕ)
-          → AllByRecursion (StandsIn (file_of bodies)) (pages_of (listing.published_with l.listing o).lists term)
+      by : (o : Option Merge) → MergeHas o → PagesStand bodies (listing.published_with l.listing o).lists
       by None has = h.posted
       by (Some m) has = has m refl
 
-  taken_has : (l : listing.Served) (terms : List TermPages) → HavePages bodies l → TermsStand (file_of bodies) terms
-      → HavePages bodies (with_terms l terms)
-  taken_has l terms h stand = record {
+  -- terms more, whose pages lie behind those before
+  more_stand : (lists terms : List TermPages) (at : ℕ) → PagesStand bodies lists → EndBefore at (places_in lists)
+      → TermsStand (file_of bodies) terms → LieInTurn at (places_in terms) → PagesStand bodies (lists ++ terms)
+  more_stand lists terms at h ends stand lie = record {
+    each = all_append (λ (list : TermPages). AllByRecursion (StandsIn (file_of bodies)) list.pages) lists terms h.each stand;
+    in_turn = subst (LieInTurn 0) (sym (flat_map-append (λ (list : TermPages). map (λ (page : Page). page.head.at) list.pages) lists terms))
+        (lie_on 0 at (places_in lists) (places_in terms) (omega arith) h.in_turn ends lie);
+  }
+
+  -- the pages of the merge end before a place
+  abbrev MergeEnds : ℕ → Option Merge → Type 0
+  MergeEnds at o = (m : Merge) → o ≡ Some m → EndBefore at (places_in m.lists)
+
+  taken_has : (l : listing.Served) (terms : List TermPages) (at : ℕ) → HavePages bodies l → MergeEnds at l.merge
+      → TermsStand (file_of bodies) terms → LieInTurn at (places_in terms) → HavePages bodies (with_terms l terms)
+  taken_has l terms at h ends stand lie = record {
     posted = h.posted;
-    merged = λ m is term.
+    merged = λ m is.
         let old = map_some l.merge (λ m. with_taken m terms) m is in
-        subst (λ (m : Merge). AllByRecursion (StandsIn (file_of bodies)) (pages_of m.lists term)) old.1.1
-        (pages_of_more (file_of bodies) old.0.lists terms term (h.merged old.0 old.1.0 term) stand);
+        subst (λ (m : Merge). PagesStand bodies m.lists) old.1.1
+        (more_stand old.0.lists terms at (h.merged old.0 old.1.0) (ends old.0 old.1.0) stand lie);
   }
 
   -- the slice's bytes are the end of the file
   sliced_has : (l : listing.Served) (terms : List kept.TermPages) (pages : List ℕ) (at : ℕ) → drop at (file_of bodies) ≡ pages → HavePages bodies l
-      → HavePages bodies (with_taken_terms l (taken_into l (slice_with terms pages) at))
-  sliced_has l terms pages at there h = by (taken_into l (slice_with terms pages) at) refl
+      → MergeEnds at l.merge → HavePages bodies (with_taken_terms l (taken_into l (slice_with terms pages) at))
+  sliced_has l terms pages at there h ends = by (taken_into l (slice_with terms pages) at) refl
     where
       by : (o : Option (List TermPages)) → taken_into l (slice_with terms pages) at ≡ o → HavePages bodies (with_taken_terms l o)
       by None is = h
@@ -269,10 +361,10 @@ module _ (bodies : List (List ℕ)) where
           let m = then_some l.merge (λ m. taken_of m.last (slice_with terms pages) at) taken is in
           let read : terms_in at terms pages ≡ Some taken =
           if_some (ascend_behind m.0.last terms) (terms_in at terms pages) taken m.1.1 in
-          taken_has l taken h (terms_stand (file_of bodies) at terms pages taken there read)
+          taken_has l taken at h ends (terms_stand (file_of bodies) at terms pages taken there read) (terms_lie at terms pages taken read)
 
   plain_has : (set : Option Catalog) (l : listing.Served) (e : Edit) → IsPlain e → HavePages bodies l → HavePages bodies (relisted set l e)
-  plain_has set l (edit.Schema s) plain h = record { posted = λ term. tt; merged = no_merge }
+  plain_has set l (edit.Schema s) plain h = record { posted = none_stand; merged = no_merge }
   plain_has None l (edit.Change change) plain h = h
   plain_has (Some c) l (edit.Change change) plain h = changed_has l _ h
   plain_has None l (edit.Load at rows) plain h = h
@@ -304,26 +396,34 @@ module _ (bodies : List (List ℕ)) where
   settled_has : (s : Served) → HavePages bodies s.listed → HavePages bodies (settled s).listed
   settled_has s h = record { posted = h.posted; merged = no_merge }
 
+-- the pages of a slice's record come behind those of the merge
+merge_ends : (before : List (List ℕ)) (terms : List kept.TermPages) (pages : List ℕ) (l : listing.Served) → HavePages before l
+    → MergeEnds (before ++ body_of (entry.Slice terms pages) ∷ []) (pages_place before terms pages) l.merge
+merge_ends before terms pages l h m is =
+    let long : length pages ≤ length (body_of (entry.Slice terms pages)) = slice_long terms pages in
+    all_map (λ (at : ℕ). at + 4096 ≤ end_of before) (λ (at : ℕ). at + 4096 ≤ pages_place before terms pages) (places_in m.lists)
+    (λ at ends. omega (arith, ends, long)) (terms_end (file_of before) m.lists (h.merged m is).each)
+
 record_has : (before : List (List ℕ)) (s next : Served) (kept : Record) → after_record before s kept ≡ Some next
-    → HavePages (before ++ body_of kept ∷ []) s.listed → HavePages (before ++ body_of kept ∷ []) next.listed
-record_has before s next (entry.Schema text) is h =
+    → HavePages before s.listed → HavePages (before ++ body_of kept ∷ []) s.listed → HavePages (before ++ body_of kept ∷ []) next.listed
+record_has before s next (entry.Schema text) is old h =
     let kept = entry.Schema text in
     outcome_has (before ++ body_of kept ∷ []) s next (entry_outcome s.catalog kept) (entry_plain s.catalog kept) is h
-record_has before s next (entry.Change change) is h =
+record_has before s next (entry.Change change) is old h =
     let kept = entry.Change change in
     outcome_has (before ++ body_of kept ∷ []) s next (entry_outcome s.catalog kept) (entry_plain s.catalog kept) is h
-record_has before s next (entry.Load table header block) is h =
+record_has before s next (entry.Load table header block) is old h =
     let kept = entry.Load table header block in
     outcome_has (before ++ body_of kept ∷ []) s next (entry_outcome s.catalog kept) (entry_plain s.catalog kept) is h
-record_has before s next entry.Begin is h =
+record_has before s next entry.Begin is old h =
     let bodies = before ++ body_of entry.Begin ∷ [] in
     map_has bodies s next edit.Begin s.catalog is (begun_has bodies s.listed s.catalog h)
-record_has before s next (entry.Slice terms pages) is h =
+record_has before s next (entry.Slice terms pages) is old h =
     let bodies = before ++ body_of (entry.Slice terms pages) ∷ [] in
     let at = pages_place before terms pages in
     map_has bodies s next (edit.Slice terms pages at) (taken_into s.listed (slice_with terms pages) at) is
-    (sliced_has bodies s.listed terms pages at (slice_ends before terms pages) h)
-record_has before s next entry.Publish is h =
+    (sliced_has bodies s.listed terms pages at (slice_ends before terms pages) h (merge_ends before terms pages s.listed old))
+record_has before s next entry.Publish is old h =
     let bodies = before ++ body_of entry.Publish ∷ [] in
     next_has bodies s next edit.Publish (if_some (may_publish s) (Some (served_with s edit.Publish)) next is) (published_has bodies s.listed h)
 
@@ -335,40 +435,26 @@ pub pages-after : (before : List (List ℕ)) (s next : Served) (body : List ℕ)
 pages-after before s next body kept says spelled is h =
     let made : after_record before s kept ≡ Some next = sym (ap (option_and_then (after_record before s)) says) ∙ is in
     subst (λ (b : List ℕ). HavePages (before ++ b ∷ []) next.listed) (sym spelled)
-    (record_has before s next kept made (HavePages-longer before (body_of kept) s.listed h))
-
--- the same of bytes
-pub pages-after-bytes : (before : List (List ℕ)) (s next : Served) (body : List ℕ) → IsBytes body → after_body before s body ≡ Some next
-    → HavePages before s.listed → HavePages (before ++ body ∷ []) next.listed
-pages-after-bytes before s next body fits is h =
-    let says = then_some (record_in body) (after_record before s) next is in
-    pages-after before s next body says.0 says.1.0 (record_in-found body says.0 fits says.1.0).1 is h
+    (record_has before s next kept made h (HavePages-longer before (body_of kept) s.listed h))
 
 pub pages-settled : (bodies : List (List ℕ)) (s : Served) → HavePages bodies s.listed → HavePages bodies (settled s).listed
 pages-settled bodies s h = settled_has bodies s h
 
-pub pages-replayed : (before : List (List ℕ)) (s next : Served) (bodies : List (List ℕ)) → AllByRecursion IsBytes bodies
+pub pages-none : HavePages [] empty.listed
+pages-none = record { posted = none_stand []; merged = no_merge [] }
+
+-- of bodies that are spelled as their records are
+pub pages-replayed : (before : List (List ℕ)) (s next : Served) (bodies : List (List ℕ)) → AllByRecursion IsSpelled bodies
     → replayed before s bodies ≡ Some next → HavePages before s.listed → HavePages (before ++ bodies) next.listed
 unfolding replayed
-pages-replayed before s next [] fit is h =
+pages-replayed before s next [] spelled is h =
     let same : s ≡ next = let e : Some s ≡ Some next = is in cc in
     subst (λ (t : Served). HavePages (before ++ []) t.listed) same
     (subst (λ (bs : List (List ℕ)). HavePages bs s.listed) (sym (append-nil before)) h)
-pages-replayed before s next (body ∷ bodies) fit is h =
+pages-replayed before s next (body ∷ bodies) spelled is h =
     let step = then_some (after_body before s body) (λ next. replayed (before ++ body ∷ []) next bodies) next is in
+    let one = spelled.0 in
+    let says : record_in body ≡ Some one.kept = ap record_in one.spelled ∙ record_in-body_of one.kept one.is_record in
     subst (λ (bs : List (List ℕ)). HavePages bs next.listed) (append_assoc before (body ∷ []) bodies)
-    (pages-replayed (before ++ body ∷ []) step.0 next bodies fit.1 step.1.1 (pages-after-bytes before s step.0 body fit.0 step.1.0 h))
-
-pub pages-none : HavePages [] empty.listed
-pages-none = record { posted = λ term. tt; merged = no_merge [] }
-
-pub pages-recovered : (bodies : List (List ℕ)) (s : Served) → AllByRecursion IsBytes bodies → replayed [] empty bodies ≡ Some s
-    → HavePages bodies s.listed
-pages-recovered bodies s fit is = pages-replayed [] empty s bodies fit is pages-none
-
--- also where an unfinished merge is forgotten
-pub pages-reopened : (bodies : List (List ℕ)) (s : Served) → AllByRecursion IsBytes bodies → recovered bodies ≡ Some s
-    → HavePages bodies s.listed
-pages-reopened bodies s fit is =
-    let whole = map_some (replayed [] empty bodies) settled s is in
-    subst (λ (t : Served). HavePages bodies t.listed) whole.1.1 (pages-settled bodies whole.0 (pages-recovered bodies whole.0 fit whole.1.0))
+    (pages-replayed (before ++ body ∷ []) step.0 next bodies spelled.1 step.1.1
+    (pages-after before s step.0 body one.kept says one.spelled step.1.0 h))

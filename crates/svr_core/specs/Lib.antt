@@ -6,6 +6,7 @@ pub mod Merges
 pub mod Outcomes
 pub mod Pages
 pub mod Plans
+pub mod Reads
 pub mod Replay
 pub mod Run
 pub mod State

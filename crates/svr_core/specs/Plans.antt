@@ -1,6 +1,9 @@
 -- What a request, or a record that is read again, comes to before anything is changed.
 use Rattle.std.specs.Prelude.{◌≡◌, ◌⊎◌, ⊤, ◌≤◌, ◌<◌, length, Option, Result, IfErr, IfOk}
+use Rattle.std.specs.Cmp.Lexicographic.{slice_cmp}
+use Rattle.std.specs.List.Sorted.{IsStrictlySortedBy}
 use Rattle.std.specs.Option.{IsSome}
+use Rattle.std.specs.Ordering.{nat_cmp}
 use Rattle.svr_journal.specs.File.{IsBody}
 use Rattle.svr_record.specs.declared.record.Record.{Record}
 use Rattle.svr_record.specs.Bodies.{body_of}
@@ -45,9 +48,10 @@ pub record IsEntry (o : Outcome) (set : Option Catalog) (e : Entry) : Type 0 whe
   pub size : IsBody e.body
   pub again : entry_outcome set edit.entry ≡ o
 
--- a search may be made: it has terms, and from 1 to 1,000 documents are wanted
+-- a search may be made: it has terms, ascending by bytes, each once, and from 1 to 1,000 documents are wanted
 pub record MayAsk (q : Query) : Type 0 where
   pub some_terms : 0 < length q.terms
+  pub ascending : IsStrictlySortedBy (slice_cmp nat_cmp) q.terms
   pub some : 0 < q.k
   pub few : q.k ≤ 1000
 

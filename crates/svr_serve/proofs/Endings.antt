@@ -96,7 +96,7 @@ module _ (e : Ending) (start mid : Streams) (old new : DiskView) (taken sent : O
   fault_since : WritesFault (line_of_ending e) start.failed_writes failed line
   fault_since = WritesFault-earlier (line_of_ending e) line start.failed_writes mid.failed_writes failed because.later fault
 
-  module _ (s : Serving e start mid old new) where
+  module _ (cache : ℕ) (s : Serving cache e start mid old new) where
     lines_on : (status_of e ≡ 4 → ⊥) → WritesBehind (lines_of s.turns) (fault_line (status_of e)) start after
     lines_on other = (
       line,
@@ -116,8 +116,8 @@ module _ (e : Ending) (start mid : Streams) (old new : DiskView) (taken sent : O
               (Appends-trans start.taken mid.taken taken p.0 line p.2 q),
         )
 
-    carried : (words : List (List ℕ)) (cache : ℕ) → cache_in words ≡ Some cache → Carried words (status_of e) start after old new
-    carried words cache asked = record {
+    carried : (words : List (List ℕ)) → cache_in words ≡ Some cache → Carried words (status_of e) start after old new
+    carried words asked = record {
       cache = cache;
       asked = asked;
       opening = s.opening;
@@ -204,14 +204,14 @@ module _ (status : ℕ) (e : Ending) (start mid : Streams) (old new : DiskView) 
   abbrev finished : Streams
   finished = streams mid.left mid.failed_reads taken sent failed
 
-  pub ends_by : (words : List (List ℕ)) (cache : ℕ) → cache_in words ≡ Some cache → StaysClosed e start mid old new ⊎ Serving e start mid old new
+  pub ends_by : (words : List (List ℕ)) (cache : ℕ) → cache_in words ≡ Some cache → StaysClosed e start mid old new ⊎ Serving cache e start mid old new
       → Unopened status start finished old new ⊎ Carried words status start finished old new
   ends_by words cache asked by = elim by [
     | inl s ↦ inl (subst (λ (n : ℕ). Unopened n start finished old new) (sym is)
         (unopened start mid old new taken sent failed line q s.streams s.images e
         (fault_since e start mid old new taken sent failed line q fault because) s.stops))
     | inr s ↦ inr (subst (λ (n : ℕ). Carried words n start finished old new) (sym is)
-        (carried e start mid old new taken sent failed line q fault because s words cache asked))
+        (carried e start mid old new taken sent failed line q fault because cache s words asked))
   ]
 
 -- the same causes, from before the disk was opened

@@ -1,31 +1,39 @@
 -- Turns that were carried from an opening state on, and what the store and its disk have become.
 use Rattle.std.proofs.Common.{◌≡◌, ℕ, List, [], ◌∷◌, ◌++◌, false, true, flat_map, inl, inr, length, take, Bool, Some}
-use Rattle.std.proofs.Common.{refl, sym, ap, ◌∙◌, subst, arith, append_assoc, append-nil}
+use Rattle.std.proofs.Common.{refl, sym, ap, ◌∙◌, subst, arith, append_assoc, append-nil, Contains, nat_eq}
+use Rattle.std.specs.List.{AllByRecursion}
+use Rattle.std.specs.Map.{lookup}
+use Rattle.std.specs.Option.{IsSome}
 use Rattle.std.proofs.lemmas.Bool.{false≢true}
+use Rattle.std.proofs.lemmas.List.Elements.{Contains-append_left, Contains-append_right}
 use Rattle.std.proofs.lemmas.List.{take_all}
+use Rattle.svr_core.specs.Pages.{HavePages, IsSpelled}
 use Rattle.svr_core.specs.Replay.{replayed}
 use Rattle.svr_core.specs.Run.{IsRun, Turn, closes, doubtful, is_in_doubt, kept, reads_of, records_of, state_in_end, state_then}
 use Rattle.svr_core.specs.State.{IsWithMerge, Served, State}
+use Rattle.svr_core.proofs.Lawful.{replayed-lawful}
+use Rattle.svr_core.proofs.Reading.{reads-from}
+use Rattle.svr_core.proofs.Standing.{all_append, pages-replayed}
 use Rattle.svr_core.proofs.Recovering.{IsWithMerge-trans, lawful_ahead, replayed-ahead}
 use Rattle.svr_core.proofs.Replayed.{replayed-none}
 use Rattle.svr_core.proofs.Runs.{IsTurn-by, bodies_in_end, going_is_sure, reads_of-more, records_of-more, replayed-append, replayed-first, state_in_end-more}
 use Rattle.svr_edge.specs.Disk.{DiskView, IsImage, Leaves}
 use Rattle.svr_edge.proofs.DiskLemmas.{Leaves-more, Leaves-refl, Leaves-trans}
 use Rattle.svr_journal.specs.File.{StandsForSome}
-use Rattle.svr_pages.specs.Stretch.{with_reads}
+use Rattle.svr_pages.specs.Stretch.{IsCached, with_reads}
 use Rattle.svr_pages.proofs.Stretching.{with_reads-append, with_reads-none}
 use Rattle.svr_request.specs.declared.reply.Reply.{Reply}
 use Rattle.svr_request.specs.Requests.{Submitted}
 use Rattle.svr_store.specs.Store.{Keeps, KeepsState, Serves, StoreValue}
 use Rattle.svr_store.specs.Submitting.{Submits}
 use Rattle.svr_store.proofs.Kept.{some_behind, some_more, some_of_none}
-use Rattle.svr_serve.specs.Program.{GoesOn}
-use Rattle.svr_serve.specs.Ran.{GivesAgain, Stores}
+use Rattle.svr_serve.specs.Program.{GoesOn, ReadAsNeeded}
+use Rattle.svr_serve.specs.Ran.{GivesAgain, GivesFirst, Stores}
 use Rattle.svr_serve.specs.Turning.{IsIdle}
-use Rattle.svr_serve.proofs.Runs.{GoesOn-last, GoesOn-more, IsRun-more, IsRun-none, doubtful-more, doubts_none, kept-more, kept_all, take-more}
+use Rattle.svr_serve.proofs.Runs.{GoesOn-last, GoesOn-more, IsRun-more, IsRun-none, ReadAsNeeded-more, ReadAsNeeded-none, doubtful-more, doubts_none, kept-more, kept_all, take-more}
 
 -- the turns so far, none of which closed the store
-pub record Kept (opening : State) (turns : List Turn) (start now : DiskView) (store : StoreValue) : Type 0 where
+pub record Kept (cache : ℕ) (opening : State) (turns : List Turn) (start now : DiskView) (store : StoreValue) : Type 0 where
   pub run : IsRun (KeepsState start opening) opening turns
   pub trace : now.trace ≡ with_reads start.trace (reads_of turns)
   pub going : GoesOn turns
@@ -35,22 +43,43 @@ pub record Kept (opening : State) (turns : List Turn) (start now : DiskView) (st
   -- each slice was the next one of its merge, where all were at the opening
   pub lawful : KeepsState start opening → (state_in_end opening turns).served.lawful ≡ true
   pub again : (n : ℕ) → GivesAgain opening (take n turns)
+  -- what is cached was read, and what was read was needed
+  pub capacity : store.pages.capacity ≡ cache
+  pub cached : (at : ℕ) → IsCached at store.pages → Contains (reads_of turns) at
+  pub needed : ReadAsNeeded (KeepsState start opening) cache opening [] turns
+  pub spelled : AllByRecursion IsSpelled (records_of turns)
+  pub pages : HavePages opening.bodies opening.served.listed
 
 -- the records of all turns
 whole : (opening : State) (turns : List Turn) → ((n : ℕ) → GivesAgain opening (take n turns)) → GivesAgain opening turns
 whole opening turns again = subst (GivesAgain opening) (take_all (length turns) turns (omega arith)) (again (length turns))
 
+first_spelled : (first others : List (List ℕ)) → AllByRecursion IsSpelled (first ++ others) → AllByRecursion IsSpelled first
+first_spelled [] others all = tt
+first_spelled (body ∷ first) others all = (all.0, first_spelled first others all.1)
+
 -- the first records of those that give something give something
-first_give : (opening : State) (turns : List Turn) (x : Served) → replayed opening.bodies opening.served (records_of turns) ≡ Some x
-    → (first others : List (List ℕ)) → records_of turns ≡ first ++ others
-    → (served : Served) × (replayed opening.bodies opening.served first ≡ Some served)
-first_give opening turns x gives first others split =
+first_give : (known : Type 0) (opening : State) (turns : List Turn) (x : Served) → replayed opening.bodies opening.served (records_of turns) ≡ Some x
+    → (known → x.lawful ≡ true) → AllByRecursion IsSpelled (records_of turns) → HavePages opening.bodies opening.served.listed
+    → (first others : List (List ℕ)) → records_of turns ≡ first ++ others → GivesFirst known opening first
+first_give known opening turns x gives lawful spelled pages first others split =
     let p = replayed-first opening.bodies opening.served x first others
     (subst (λ (bs : List (List ℕ)). replayed opening.bodies opening.served bs ≡ Some x) split gives) in
-    (p.0, p.1)
+    record {
+      served = p.0;
+      gives = p.1;
+      pages = pages-replayed opening.bodies opening.served p.0 first
+          (first_spelled first others (subst (AllByRecursion IsSpelled) split spelled)) p.1 pages;
+      lawful = λ is. replayed-lawful (opening.bodies ++ first) p.0 x others p.2 (lawful is);
+    }
 
-pub Kept-start : (opening : State) (start : DiskView) (store : StoreValue) → Serves store opening → Kept opening [] start start store
-Kept-start opening start store serves = record {
+none_cached : (pages : List (ℕ × List ℕ)) (at : ℕ) → pages ≡ [] → IsSome (lookup (nat_eq at) pages) → ⊥
+none_cached [] at none there = let e : ◌≡◌ {A = Bool} false true = there in cc
+none_cached (page ∷ pages) at none there = cc
+
+pub Kept-start : (cache : ℕ) (opening : State) (start : DiskView) (store : StoreValue) → Serves store opening → store.pages.pages ≡ []
+    → store.pages.capacity ≡ cache → Kept cache opening [] start start store
+Kept-start cache opening start store serves uncached capacity = record {
   run = IsRun-none (KeepsState start opening) opening;
   trace = sym (with_reads-none start.trace);
   going = tt;
@@ -60,11 +89,16 @@ Kept-start opening start store serves = record {
   lawful = λ kept. kept.lawful;
   again = λ n. subst (GivesAgain opening) (sym (take_all n [] (omega arith)))
       (record { next = opening.served; gives = replayed-none opening.bodies opening.served; same = inr refl });
+  capacity = capacity;
+  cached = λ at there. absurd (none_cached store.pages.pages at uncached there);
+  needed = ReadAsNeeded-none (KeepsState start opening) cache opening [];
+  spelled = tt;
+  pages = serves.pages;
 }
 
-pub Kept-idle : (opening : State) (turns : List Turn) (start old new : DiskView) (store then : StoreValue) → Kept opening turns start old store
-    → IsIdle old new → then ≡ store → Kept opening turns start new then
-Kept-idle opening turns start old new store then k idle same = record {
+pub Kept-idle : (cache : ℕ) (opening : State) (turns : List Turn) (start old new : DiskView) (store then : StoreValue) → Kept cache opening turns start old store
+    → IsIdle old new → then ≡ store → Kept cache opening turns start new then
+Kept-idle cache opening turns start old new store then k idle same = record {
   run = k.run;
   trace = idle.trace ∙ k.trace;
   going = k.going;
@@ -73,12 +107,17 @@ Kept-idle opening turns start old new store then k idle same = record {
   keeps = λ keeps. idle.keeps (opening.bodies ++ records_of turns) (k.keeps keeps);
   lawful = k.lawful;
   again = k.again;
+  capacity = ap (λ (v : StoreValue). v.pages.capacity) same ∙ k.capacity;
+  cached = λ at there. k.cached at (subst (λ (v : StoreValue). IsCached at v.pages) same there);
+  needed = k.needed;
+  spelled = k.spelled;
+  pages = k.pages;
 }
 
 -- ---- one turn more
 
-module _ (opening : State) (turns : List Turn) (start old new : DiskView) (store then : StoreValue) (k : Kept opening turns start old store)
-    (request : Submitted) (reply : Reply) (one : Submits old new then (state_in_end opening turns) request reply) where
+module _ (cache : ℕ) (opening : State) (turns : List Turn) (start old new : DiskView) (store then : StoreValue) (k : Kept cache opening turns start old store)
+    (request : Submitted) (reply : Reply) (one : Submits old new store then (state_in_end opening turns) request reply) where
   abbrev all : List Turn
   all = turns ++ one.turn ∷ []
 
@@ -99,6 +138,22 @@ module _ (opening : State) (turns : List Turn) (start old new : DiskView) (store
   pub run_more : IsRun (KeepsState start opening) opening all
   run_more = IsRun-more (KeepsState start opening) opening turns one.turn k.run k.going
       (IsTurn-by (KeepsState old (state_in_end opening turns)) (KeepsState start opening) kept_before (state_in_end opening turns) one.turn one.is)
+
+  -- it read what it needs, but for what was read before
+  needed_more : ReadAsNeeded (KeepsState start opening) cache opening [] all
+  needed_more = ReadAsNeeded-more (KeepsState start opening) cache opening [] turns one.turn k.needed
+      (λ kept. reads-from (λ at. IsCached at store.pages) (Contains (reads_of turns)) k.cached store.pages.capacity cache k.capacity
+      (state_in_end opening turns) one.turn (one.caches.search (kept_before kept)))
+
+  cached_more : (at : ℕ) → IsCached at then.pages → Contains (reads_of all) at
+  cached_more at there = subst (λ (l : List ℕ). Contains l at) (sym (reads_of-more turns one.turn)) (elim (one.caches.keeps.cached at there) [
+    | inl was ↦ Contains-append_left (reads_of turns) one.turn.reads at (k.cached at was)
+    | inr read ↦ Contains-append_right (reads_of turns) one.turn.reads at read
+  ])
+
+  spelled_more : AllByRecursion IsSpelled (records_of all)
+  spelled_more = subst (AllByRecursion IsSpelled) (sym (records_of-more turns one.turn))
+      (all_append IsSpelled (records_of turns) one.turn.added k.spelled one.spelled)
 
   -- each slice was the next one of its merge
   lawful_more : closes reply ≡ false → KeepsState start opening → (state_in_end opening all).served.lawful ≡ true
@@ -151,7 +206,7 @@ module _ (opening : State) (turns : List Turn) (start old new : DiskView) (store
     | inr every ↦ subst (GivesAgain opening) (sym every) (replays_more going)
   ]
 
-  pub Kept-more : closes reply ≡ false → Kept opening all start new then
+  pub Kept-more : closes reply ≡ false → Kept cache opening all start new then
   Kept-more going = record {
     run = run_more;
     trace = trace_more;
@@ -161,6 +216,11 @@ module _ (opening : State) (turns : List Turn) (start old new : DiskView) (store
     keeps = λ keeps. keeps_more keeps (going_is_sure reply going);
     lawful = lawful_more going;
     again = again_more going;
+    capacity = one.caches.keeps.capacity ∙ k.capacity;
+    cached = cached_more;
+    needed = needed_more;
+    spelled = spelled_more;
+    pages = k.pages;
   }
 
   -- ---- a turn that closed the store
@@ -209,27 +269,31 @@ module _ (opening : State) (turns : List Turn) (start old new : DiskView) (store
       (by_doubt (is_in_doubt one.turn.reply) (IsLeft image (records_of turns ++ kept one.turn) (doubtful one.turn))
       (left_sure keeps image left) (left_unsure keeps image left)))
 
-  pub Stores-closed : closes reply ≡ true → Stores opening all start new
+  pub Stores-closed : closes reply ≡ true → Stores cache opening all start new
   Stores-closed closed = record {
     trace = trace_more;
+    needed = needed_more;
     any_moment = moment_more;
     in_end = left_all;
     again = again_closed closed;
-    lawful = first_give opening all replays_all.0 replays_all.1;
+    each = first_give (KeepsState start opening) opening all replays_all.0 replays_all.1
+        (λ kept. lawful_ahead replays_all.0 one.next replays_all.2 ∙ one.lawful (kept_before kept)) spelled_more k.pages;
   }
 
 -- turns that didn't close the store
-pub Stores-going : (opening : State) (turns : List Turn) (start now : DiskView) (store : StoreValue) → Kept opening turns start now store
-    → Stores opening turns start now
-Stores-going opening turns start now store k = record {
+pub Stores-going : (cache : ℕ) (opening : State) (turns : List Turn) (start now : DiskView) (store : StoreValue) → Kept cache opening turns start now store
+    → Stores cache opening turns start now
+Stores-going cache opening turns start now store k = record {
   trace = k.trace;
+  needed = k.needed;
   any_moment = k.any_moment;
   in_end = λ keeps image left.
       subst (λ (bs : List (List ℕ)). StandsForSome (opening.bodies ++ bs) (flat_map doubtful turns) image) (sym (kept_all turns k.going))
       (subst (λ (bs : List (List ℕ)). StandsForSome (opening.bodies ++ records_of turns) bs image) (sym (doubts_none turns k.going))
       (some_of_none (opening.bodies ++ records_of turns) image ((k.keeps keeps).safe image left)));
   again = λ n going. k.again n;
-  lawful =
+  each =
       let all = whole opening turns k.again in
-      first_give opening turns all.next all.gives;
+      first_give (KeepsState start opening) opening turns all.next all.gives
+      (λ kept. lawful_ahead all.next (state_in_end opening turns).served all.same ∙ k.lawful kept) k.spelled k.pages;
 }

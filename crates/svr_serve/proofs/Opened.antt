@@ -17,7 +17,9 @@ use Rattle.svr_serve.specs.Layout.{ending_of_error}
 use Rattle.svr_store.specs.Opening.{IsNoJournal, Opens, StoodForState}
 use Rattle.svr_store.specs.Store.{Keeps, KeepsState, StoreValue}
 use Rattle.svr_serve.specs.declared.ending.Ending.{Ending}
-use Rattle.svr_serve.specs.Program.{IsHalfMade, Recovers, Streams, Survives}
+use Rattle.svr_core.proofs.Standing.{pages-settled}
+use Rattle.svr_serve.specs.Program.{ReadAsNeeded, IsHalfMade, Recovers, Streams, Survives}
+use Rattle.svr_serve.proofs.Runs.{ReadAsNeeded-by}
 use Rattle.svr_serve.specs.Ran.{Carries, OpeningStops, Ran, Serving, Stores}
 
 -- ---- a new journal
@@ -61,20 +63,26 @@ half_made old new stays torn = by_size old.size (Leaves old new (IsHalfMade old)
 
 -- ---- the records
 
-module _ (opening : State) (turns : List Turn) (gives : recovered opening.bodies ≡ Some opening.served) where
+module _ (cache : ℕ) (opening : State) (turns : List Turn) (gives : recovered opening.bodies ≡ Some opening.served) where
   behind : (first : List (List ℕ)) (x : Served) → replayed opening.bodies opening.served first ≡ Some x
       → recovered (opening.bodies ++ first) ≡ Some (settled x)
   behind first x is = recovered-behind opening.bodies opening.served x first gives is
 
-  recovers_by : (old new : DiskView) → Stores opening turns old new → Recovers opening turns
-  recovers_by old new s = record {
+  recovers_by : (known : Type 0) (old new : DiskView) → (known → KeepsState old opening) → Stores cache opening turns old new
+      → Recovers known opening turns
+  recovers_by known old new knows s = record {
     again = λ n going.
         let all = s.again n going in
         behind (records_of (take n turns)) all.next all.gives
         ∙ ap (λ (x : Served). Some x) (settled_ahead all.next (state_in_end opening (take n turns)).served all.same);
-    lawful = λ first others split.
-        let p = s.lawful first others split in
-        (settled p.0, behind first p.0 p.1);
+    each = λ first others split.
+        let p = s.each first others split in
+        record {
+          served = settled p.served;
+          gives = behind first p.served p.gives;
+          pages = pages-settled (opening.bodies ++ first) p.served p.pages;
+          lawful = λ is. p.lawful (knows is);
+        };
   }
 
 -- what is said of a run where less is known
@@ -90,24 +98,31 @@ ran_by kept more knows e opening turns before after r = record {
   going = r.going;
 }
 
-survives_by : (opening : State) (turns : List Turn) (old mid new : DiskView) → Leaves old mid (IsHalfMade old) → Keeps mid opening.bodies
-    → Stores opening turns mid new → Survives opening.bodies turns old new
-survives_by opening turns old mid new images keeps s = record {
+survives_by : (cache : ℕ) (opening : State) (turns : List Turn) (old mid new : DiskView) → Leaves old mid (IsHalfMade old) → Keeps mid opening.bodies
+    → Stores cache opening turns mid new → Survives opening.bodies turns old new
+survives_by cache opening turns old mid new images keeps s = record {
   any_moment = Leaves-trans old mid new (IsHalfMade old) (StandsForSome opening.bodies (records_of turns))
       (λ image. StandsForSome opening.bodies (records_of turns) image ⊎ IsHalfMade old image) images (s.any_moment keeps)
       (λ image h. inr h) (λ image h. inl h);
   in_end = s.in_end keeps;
 }
 
-pub serving_by : (e : Ending) (before after : Streams) (old mid new : DiskView) (store : StoreValue) (o : Opens old mid store)
-    → Leaves old mid (IsHalfMade old) → Carries e o.state before after mid new → Serving e before after old new
-serving_by e before after old mid new store o images c = record {
+pub serving_by : (capacity cache : ℕ) → capacity ≡ cache → (e : Ending) (before after : Streams) (old mid new : DiskView) (store : StoreValue) (o : Opens old mid store)
+    → Leaves old mid (IsHalfMade old) → Carries capacity e o.state before after mid new → Serving cache e before after old new
+serving_by capacity cache same e before after old mid new store o images c = record {
   opening = o.state;
   turns = c.0;
   found = record { stood = o.stood; found = λ bodies stood. (o.found bodies stood).0; gives = o.gives };
-  ran = ran_by (KeepsState mid o.state) (StoodForState old o.state)
-      (λ stood. record { keeps = (o.found o.state.bodies stood.stood).1; lawful = stood.lawful }) e o.state c.0 before after c.1;
-  reads = (mid.trace, c.2.trace);
-  survives = λ stood. survives_by o.state c.0 old mid new images (o.found o.state.bodies stood).1 c.2;
-  recovers = recovers_by o.state c.0 o.gives mid new c.2;
+  ran = ran_by (KeepsState mid o.state) (StoodForState old o.state) knows e o.state c.0 before after c.1;
+  reads = record {
+    opened = mid.trace;
+    trace = c.2.trace;
+    needed = subst (λ (n : ℕ). ReadAsNeeded (StoodForState old o.state) n o.state [] c.0) same
+        (ReadAsNeeded-by (KeepsState mid o.state) (StoodForState old o.state) knows capacity o.state [] c.0 c.2.needed);
+  };
+  survives = λ stood. survives_by capacity o.state c.0 old mid new images (o.found o.state.bodies stood).1 c.2;
+  recovers = recovers_by capacity o.state c.0 o.gives (StoodForState old o.state) mid new knows c.2;
 }
+  where
+    knows : StoodForState old o.state → KeepsState mid o.state
+    knows stood = record { keeps = (o.found o.state.bodies stood.stood).1; lawful = stood.lawful }

@@ -1,13 +1,14 @@
 -- Runs that go on by one turn.
 use Rattle.std.proofs.Common.{◌≡◌, ◌⊎◌, ℕ, false, List, [], ◌∷◌, ◌++◌, flat_map, inl, inr, take}
-use Rattle.std.proofs.Common.{refl, sym, ap, ◌∙◌, arith, zero, suc}
+use Rattle.std.proofs.Common.{refl, sym, ap, ◌∙◌, subst, arith, zero, suc, append_assoc, append-nil, Contains}
 use Rattle.std.proofs.lemmas.Bool.{false≢true}
 use Rattle.std.proofs.lemmas.List.{take_all}
-use Rattle.svr_core.specs.Run.{IsRun, IsTurn, Turn, closes, doubtful, kept, records_of, state_in_end, state_then}
+use Rattle.svr_core.specs.Reads.{ReadsIfSearch}
+use Rattle.svr_core.specs.Run.{IsRun, IsTurn, Turn, closes, doubtful, kept, reads_of, records_of, state_in_end, state_then}
 use Rattle.svr_core.specs.State.{State}
 use Rattle.svr_core.proofs.Runs.{flat_map-more, going_is_sure}
 use Rattle.svr_request.specs.Requests.{Submitted}
-use Rattle.svr_serve.specs.Program.{GoesOn, line_of, lines_of, requests_in}
+use Rattle.svr_serve.specs.Program.{GoesOn, ReadAsNeeded, line_of, lines_of, requests_in}
 
 -- ---- lists of turns
 
@@ -65,3 +66,28 @@ unfolding IsRun
 IsRun-more kept s [] t run going is = (is, λ closed. refl, tt)
 IsRun-more kept s (u ∷ ts) t run going is =
     (run.0, λ closed. absurd (false≢true (sym going.0 ∙ closed)), IsRun-more kept (state_then s u) ts t run.2 going.1 is)
+
+-- ---- reads
+
+pub ReadAsNeeded-none : (known : Type 0) (cache : ℕ) (s : State) (before : List ℕ) → ReadAsNeeded known cache s before []
+unfolding ReadAsNeeded
+ReadAsNeeded-none known cache s before = tt
+
+pub ReadAsNeeded-more : (known : Type 0) (cache : ℕ) (s : State) (before : List ℕ) (ts : List Turn) (t : Turn) → ReadAsNeeded known cache s before ts
+    → (known → ReadsIfSearch (Contains (before ++ reads_of ts)) cache (state_in_end s ts) t) → ReadAsNeeded known cache s before (ts ++ t ∷ [])
+unfolding ReadAsNeeded
+ReadAsNeeded-more known cache s before [] t reads is =
+    (subst (λ (l : List ℕ). known → ReadsIfSearch (Contains l) cache s t) (append-nil before) is, tt)
+ReadAsNeeded-more known cache s before (u ∷ ts) t reads is = (
+  reads.0,
+  ReadAsNeeded-more known cache (state_then s u) (before ++ u.reads) ts t reads.1
+      (subst (λ (l : List ℕ). known → ReadsIfSearch (Contains l) cache (state_in_end (state_then s u) ts) t)
+      (sym (append_assoc before u.reads (reads_of ts))) is),
+)
+
+pub ReadAsNeeded-by : (known more : Type 0) → (more → known) → (cache : ℕ) (s : State) (before : List ℕ) (ts : List Turn)
+    → ReadAsNeeded known cache s before ts → ReadAsNeeded more cache s before ts
+unfolding ReadAsNeeded
+ReadAsNeeded-by known more knows cache s before [] reads = tt
+ReadAsNeeded-by known more knows cache s before (t ∷ ts) reads =
+    ((λ is. reads.0 (knows is)), ReadAsNeeded-by known more knows cache (state_then s t) (before ++ t.reads) ts reads.1)

@@ -16,7 +16,7 @@ pub record IsWhole (text : List ℕ) : Type 0 where
   pub whole : whole_requests text ≡ requests_of text
 
 -- what was read, answered, stored and written since a start at these bytes left and these bytes taken
-pub record SoFar (opening : State) (left taken : Option (List ℕ)) (disk : DiskView) (now : Standing) : Type 0 where
+pub record SoFar (cache : ℕ) (opening : State) (left taken : Option (List ℕ)) (disk : DiskView) (now : Standing) : Type 0 where
   -- the bytes that were handed out or passed over
   pub handed : List ℕ
   pub consumed : Consumes left now.streams.left (handed ++ now.lines.ahead)
@@ -30,12 +30,12 @@ pub record SoFar (opening : State) (left taken : Option (List ℕ)) (disk : Disk
   -- the turns
   pub turns : List Turn
   pub asked : requests_in turns ≡ requests_of handed
-  pub kept : Kept opening turns disk now.disk now.store
+  pub kept : Kept cache opening turns disk now.disk now.store
   pub written : Appends taken now.streams.taken (lines_of turns)
 
 -- and that nothing is kept back, and no count of faults has fallen
-pub record Between (opening : State) (start : Streams) (disk : DiskView) (now : Standing) : Type 0 where
-  pub so_far : SoFar opening start.left start.taken disk now
+pub record Between (cache : ℕ) (opening : State) (start : Streams) (disk : DiskView) (now : Standing) : Type 0 where
+  pub so_far : SoFar cache opening start.left start.taken disk now
   pub sent : start.sent ≡ start.taken → now.streams.sent ≡ now.streams.taken
   pub reads_later : start.failed_reads ≤ now.streams.failed_reads
   pub writes_later : start.failed_writes ≤ now.streams.failed_writes

@@ -165,7 +165,7 @@ not_complete : (e : Ending) (old new : Standing) → StopsTurn e old new → e �
 not_complete e old new p is =
     (reads_none Complete old new (subst (λ (x : Ending). StopsTurn x old new) is p) (λ other. cc) (λ other. cc) (λ other. cc)).0
 
-module _ (opening : State) (start : Streams) (disk : DiskView) (old new : Standing) (s : SoFar opening start.left start.taken disk old) where
+module _ (cache : ℕ) (opening : State) (start : Streams) (disk : DiskView) (old new : Standing) (s : SoFar cache opening start.left start.taken disk old) where
   same_written : new.streams.taken ≡ old.streams.taken → Appends start.taken new.streams.taken (lines_of s.turns)
   same_written silent = subst (λ (w : Option (List ℕ)). Appends start.taken w (lines_of s.turns)) (sym silent) s.written
 
@@ -186,12 +186,12 @@ module _ (opening : State) (start : Streams) (disk : DiskView) (old new : Standi
 
   carries_idle : (e : Ending) → EndsServing e → (e ≡ Output → ⊥) → (e ≡ Write → ⊥)
       → Answered (status_of e) start.left new.streams.left (requests_in s.turns) → new.streams.taken ≡ old.streams.taken
-      → IsIdle old.disk new.disk → new.store ≡ old.store → Carries e opening start new.streams disk new.disk
+      → IsIdle old.disk new.disk → new.store ≡ old.store → Carries cache e opening start new.streams disk new.disk
   carries_idle e serving sink write answered silent idle same = (
     s.turns,
     ran_idle e serving sink write answered silent,
-    Stores-going opening s.turns disk new.disk new.store
-        (Kept-idle opening s.turns disk old.disk new.disk old.store new.store s.kept idle same),
+    Stores-going cache opening s.turns disk new.disk new.store
+        (Kept-idle cache opening s.turns disk old.disk new.disk old.store new.store s.kept idle same),
   )
 
   -- the reader stopped
@@ -227,7 +227,7 @@ module _ (opening : State) (start : Streams) (disk : DiskView) (old new : Standi
   }
 
   carries_reading : (e : Ending) → StopsReading e old.streams.left new.streams.left old.lines new.lines → new.streams.taken ≡ old.streams.taken
-      → IsIdle old.disk new.disk → new.store ≡ old.store → Carries e opening start new.streams disk new.disk
+      → IsIdle old.disk new.disk → new.store ≡ old.store → Carries cache e opening start new.streams disk new.disk
   carries_reading Input p silent = carries_idle Input tt (λ is. cc) (λ is. cc)
       (answered_whole 3 start.left new.streams.left (requests_in s.turns) (inr (inl refl)) (whole_short p)) silent
   carries_reading Bytes p silent = carries_idle Bytes tt (λ is. cc) (λ is. cc)
@@ -248,25 +248,25 @@ module _ (opening : State) (start : Streams) (disk : DiskView) (old new : Standi
 
   module _ (reply : Reply) (r : TurnReplies old new reply) where
     abbrev turns : List Turn
-    turns = all opening start.left start.taken disk old new s reply r
+    turns = all cache opening start.left start.taken disk old new s reply r
 
     first_more : FirstOf start.left (requests_in turns)
     first_more =
         let t = r.takes in
         first_by start.left new.streams.left new.lines (s.handed ++ t.gone) (requests_in turns)
         (Consumes-reads start.left old.streams.left new.streams.left old.lines new.lines s.handed t.gone t.bytes s.consumed t.reads)
-        (next_whole opening start.left start.taken disk old new s r.request t) t.known_end
-        (asked_more opening start.left start.taken disk old new s reply r)
+        (next_whole cache opening start.left start.taken disk old new s r.request t) t.known_end
+        (asked_more cache opening start.left start.taken disk old new s reply r)
 
     run_all : IsRun (KeepsState disk opening) opening turns
-    run_all = run_more opening s.turns disk old.disk new.disk old.store new.store s.kept r.request reply
-        (one opening start.left start.taken disk old new s reply r)
+    run_all = run_more cache opening s.turns disk old.disk new.disk old.store new.store s.kept r.request reply
+        (one cache opening start.left start.taken disk old new s reply r)
 
     -- and the store closed by it
     closed_lines : closes reply ≡ true → lines_of turns ≡ lines_of s.turns
     closed_lines closed =
-        let t = (one opening start.left start.taken disk old new s reply r).turn in
-        let is : closes t.reply ≡ true = ap closes (one opening start.left start.taken disk old new s reply r).told ∙ closed in
+        let t = (one cache opening start.left start.taken disk old new s reply r).turn in
+        let is : closes t.reply ≡ true = ap closes (one cache opening start.left start.taken disk old new s reply r).told ∙ closed in
         lines_of-more s.turns t ∙ (rw is (append-nil (lines_of s.turns)))
 
     is_closed : (e : Ending) → IsClosedBy e reply → closes reply ≡ true
@@ -288,7 +288,7 @@ module _ (opening : State) (start : Streams) (disk : DiskView) (old new : Standi
     no_more e by write memory = elim by [ inl w ↦ absurd (write w.0) | inr m ↦ absurd (memory m.0) ]
 
     carries_closed : (e : Ending) → IsClosedBy e reply → new.streams.taken ≡ old.streams.taken
-        → Carries e opening start new.streams disk new.disk
+        → Carries cache e opening start new.streams disk new.disk
     carries_closed e by silent = (
       turns,
       record {
@@ -299,24 +299,24 @@ module _ (opening : State) (start : Streams) (disk : DiskView) (old new : Standi
         part = λ is. absurd (no_output e by is);
         closed = λ is. record {
           front = s.turns;
-          last = (one opening start.left start.taken disk old new s reply r).turn;
+          last = (one cache opening start.left start.taken disk old new s reply r).turn;
           split = refl;
-          is = (one opening start.left start.taken disk old new s reply r).told ∙ ends_so e by is;
+          is = (one cache opening start.left start.taken disk old new s reply r).told ∙ ends_so e by is;
         };
         going = no_more e by;
       },
-      Stores-closed opening s.turns disk old.disk new.disk old.store new.store s.kept r.request reply
-          (one opening start.left start.taken disk old new s reply r) (is_closed e by),
+      Stores-closed cache opening s.turns disk old.disk new.disk old.store new.store s.kept r.request reply
+          (one cache opening start.left start.taken disk old new s reply r) (is_closed e by),
     )
 
   -- the sink failed
-  carries_output : StopsWriting old new → Carries Output opening start new.streams disk new.disk
+  carries_output : StopsWriting old new → Carries cache Output opening start new.streams disk new.disk
   carries_output w =
       let reply = w.reply in
       let r = w.writes.replied in
-      let o = one opening start.left start.taken disk old new s reply r in
-      let lines = lines_going opening start.left start.taken disk old new s reply r w.writes.going in
-      let k = Kept-more opening s.turns disk old.disk new.disk old.store new.store s.kept r.request reply o w.writes.going in (
+      let o = one cache opening start.left start.taken disk old new s reply r in
+      let lines = lines_going cache opening start.left start.taken disk old new s reply r w.writes.going in
+      let k = Kept-more cache opening s.turns disk old.disk new.disk old.store new.store s.kept r.request reply o w.writes.going in (
         turns reply r,
         record {
           serving = tt;
@@ -334,12 +334,12 @@ module _ (opening : State) (start : Streams) (disk : DiskView) (old new : Standi
           closed = λ is. cc;
           going = λ _ _. k.going;
         },
-        Stores-going opening (turns reply r) disk new.disk new.store k,
+        Stores-going cache opening (turns reply r) disk new.disk new.store k,
       )
 
-  carries_stop : (e : Ending) → StopsTurn e old new → Carries e opening start new.streams disk new.disk
+  carries_stop : (e : Ending) → StopsTurn e old new → Carries cache e opening start new.streams disk new.disk
   carries_stop e p = elim p [
-    | inl cut ↦ subst (λ (x : Ending). Carries x opening start new.streams disk new.disk) (sym cut.0) (carries_output cut.1)
+    | inl cut ↦ subst (λ (x : Ending). Carries cache x opening start new.streams disk new.disk) (sym cut.0) (carries_output cut.1)
     | inr none ↦ elim none.0 [
       | inl reads ↦ carries_reading e reads.0 none.1.taken reads.1 reads.2
       | inr closed ↦ carries_closed closed.0 closed.2 e closed.1 none.1.taken
@@ -372,7 +372,7 @@ module _ (opening : State) (start : Streams) (disk : DiskView) (old new : Standi
       (λ rest known. last_uncut s.handed e.gone (new.lines.ahead ++ rest) (s.whole is) s.uncut e.none
       (none_left new.streams.left new.lines.ahead rest e.last.ahead e.last.source known)))
 
-  carries_end : TurnDoes turn.Ended old new → Carries Complete opening start new.streams disk new.disk
+  carries_end : TurnDoes turn.Ended old new → Carries cache Complete opening start new.streams disk new.disk
   carries_end e = carries_idle Complete tt (λ is. cc) (λ is. cc)
       (answered_all start.left new.streams.left (requests_in s.turns) e.input.last.source
       (both start.left (requests_in s.turns) (requests_of s.handed) s.asked (all_requests e.input) (no_cut e.input)))
@@ -445,11 +445,11 @@ module _ (opening : State) (start : Streams) (disk : DiskView) (old new : Standi
 
 -- ---- how serving ends
 
-module _ (opening : State) (start : Streams) (disk : DiskView) (old new : Standing) (b : Between opening start disk old) where
+module _ (cache : ℕ) (opening : State) (start : Streams) (disk : DiskView) (old new : Standing) (b : Between cache opening start disk old) where
   pub ends_complete : TurnDoes turn.Ended old new → HasTurnCauses turn.Ended old new
-      → Carries Complete opening start new.streams disk new.disk × EndsBecause Complete start new.streams disk new.disk
+      → Carries cache Complete opening start new.streams disk new.disk × EndsBecause Complete start new.streams disk new.disk
   ends_complete done causes = (
-    carries_end opening start disk old new b.so_far done,
+    carries_end cache opening start disk old new b.so_far done,
     record {
       sent = λ first. inl (done.silent.sent ∙ b.sent first ∙ sym done.silent.taken);
       later = omega (arith, b.writes_later, causes.writes_later);
@@ -458,7 +458,7 @@ module _ (opening : State) (start : Streams) (disk : DiskView) (old new : Standi
       output = λ is. cc;
       write = λ is. cc;
       bytes = λ is. cc;
-      before_limit = λ _. took_to_end opening start disk old new b.so_far done.input;
+      before_limit = λ _. took_to_end cache opening start disk old new b.so_far done.input;
     },
   )
 
@@ -470,13 +470,13 @@ module _ (opening : State) (start : Streams) (disk : DiskView) (old new : Standi
   ]
 
   ends_cut : (e : Ending) → StopsTurn e old new → e ≡ Cut → EndsInBlock start.left new.streams.left
-  ends_cut e done is = ends_inside opening start disk old new b.so_far
+  ends_cut e done is = ends_inside cache opening start disk old new b.so_far
       (reads_none Cut old new (subst (λ (x : Ending). StopsTurn x old new) is done) (λ other. cc) (λ other. cc) (λ other. cc)).0
 
   pub ends_stop : (e : Ending) → TurnDoes (turn.Stop e) old new → HasTurnCauses (turn.Stop e) old new
-      → Carries e opening start new.streams disk new.disk × EndsBecause e start new.streams disk new.disk
+      → Carries cache e opening start new.streams disk new.disk × EndsBecause e start new.streams disk new.disk
   ends_stop e done causes = (
-    carries_stop opening start disk old new b.so_far e done,
+    carries_stop cache opening start disk old new b.so_far e done,
     record {
       sent = sends_all e done causes;
       later = omega (arith, b.writes_later, causes.writes_later);
@@ -487,7 +487,7 @@ module _ (opening : State) (start : Streams) (disk : DiskView) (old new : Standi
           (causes.output (ap turn.Stop is));
       write = λ is. Rose-earlier disk.write_faults old.disk.write_faults new.disk.write_faults b.disk_later
           (causes.write (ap turn.Stop is));
-      bytes = λ is. took_all opening start disk old new b.so_far e done is (causes.bytes (ap turn.Stop is));
-      before_limit = λ by. took_less opening start disk old new b.so_far e done by (λ is. (causes.input (ap turn.Stop is)).1);
+      bytes = λ is. took_all cache opening start disk old new b.so_far e done is (causes.bytes (ap turn.Stop is));
+      before_limit = λ by. took_less cache opening start disk old new b.so_far e done by (λ is. (causes.input (ap turn.Stop is)).1);
     },
   )

@@ -28,8 +28,9 @@ use Rattle.svr_serve.proofs.Runs.{lines_of-more, requests_in-more}
 not_both : (b : Bool) → b ≡ true → b ≡ false → ⊥
 not_both b h k = cc
 
-module _ (opening : State) (start : Streams) (disk : DiskView) (session : Session) (new : IsNew session disk) (serves : Serves session.store opening) where
-  SoFar-start : SoFar opening start.left start.taken disk (standing start disk session.lines session.store)
+module _ (cache : ℕ) (opening : State) (start : Streams) (disk : DiskView) (session : Session) (new : IsNew session disk)
+    (capacity : session.store.pages.capacity ≡ cache) (serves : Serves session.store opening) where
+  SoFar-start : SoFar cache opening start.left start.taken disk (standing start disk session.lines session.store)
   SoFar-start =
       let lines = session.lines in
       let open_end = ap (λ (r : Reading). r.ended) new.lines in record {
@@ -44,11 +45,11 @@ module _ (opening : State) (start : Streams) (disk : DiskView) (session : Sessio
         before_limit = λ is. absurd (not_both lines.ended is open_end);
         turns = [];
         asked = sym (requests_of-none [] refl);
-        kept = Kept-start opening disk session.store serves;
+        kept = Kept-start cache opening disk session.store serves new.uncached capacity;
         written = Appends-nil start.taken;
       }
 
-  pub Between-start : Between opening start disk (standing start disk session.lines session.store)
+  pub Between-start : Between cache opening start disk (standing start disk session.lines session.store)
   Between-start = record {
     so_far = SoFar-start;
     sent = λ first. first;
@@ -74,7 +75,7 @@ Consumes-reads a b c old new handed gone bytes p r = subst (Consumes a c) (sym (
 
 -- ---- one request more
 
-module _ (opening : State) (left taken : Option (List ℕ)) (disk : DiskView) (old new : Standing) (s : SoFar opening left taken disk old) where
+module _ (cache : ℕ) (opening : State) (left taken : Option (List ℕ)) (disk : DiskView) (old new : Standing) (s : SoFar cache opening left taken disk old) where
   next_requests : (request : Submitted) (t : TakesRequest old.streams.left new.streams.left old.lines new.lines request)
       → requests_of (s.handed ++ t.gone) ≡ requests_of s.handed ++ request ∷ []
   next_requests request t = requests_of-more s.handed t.gone request (s.whole t.open_end) t.part
@@ -87,7 +88,7 @@ module _ (opening : State) (left taken : Option (List ℕ)) (disk : DiskView) (o
   ]
 
   module _ (reply : Reply) (r : TurnReplies old new reply) where
-    abbrev pub one : Submits old.disk new.disk new.store (state_in_end opening s.turns) r.request reply
+    abbrev pub one : Submits old.disk new.disk old.store new.store (state_in_end opening s.turns) r.request reply
     one = r.answers.submits (state_in_end opening s.turns) s.kept.serves
 
     abbrev pub all : List Turn
@@ -102,7 +103,7 @@ module _ (opening : State) (left taken : Option (List ℕ)) (disk : DiskView) (o
         let is : closes one.turn.reply ≡ false = ap closes one.told ∙ going in
         lines_of-more s.turns one.turn ∙ (rw is (ap (λ (p : Reply). lines_of s.turns ++ text_of p) one.told))
 
-    SoFar-more : Writes old new reply (text_of reply) → taken_bytes new.lines ≤ new.lines.limit → SoFar opening left taken disk new
+    SoFar-more : Writes old new reply (text_of reply) → taken_bytes new.lines ≤ new.lines.limit → SoFar cache opening left taken disk new
     SoFar-more w few =
         let t = r.takes in
         let limit = t.reads.limit ∙ s.limit in record {
@@ -117,16 +118,16 @@ module _ (opening : State) (left taken : Option (List ℕ)) (disk : DiskView) (o
           before_limit = λ is. omega (arith, t.before_limit is, limit);
           turns = all;
           asked = asked_more;
-          kept = Kept-more opening s.turns disk old.disk new.disk old.store new.store s.kept r.request reply one w.going;
+          kept = Kept-more cache opening s.turns disk old.disk new.disk old.store new.store s.kept r.request reply one w.going;
           written = subst (Appends taken new.streams.taken) (sym (lines_going w.going))
               (Appends-trans taken old.streams.taken new.streams.taken (lines_of s.turns) (text_of reply) s.written w.bytes);
         }
 
 -- a turn that served a request
-pub Between-more : (opening : State) (start : Streams) (disk : DiskView) (old new : Standing) → Between opening start disk old
-    → TurnDoes turn.Served old new → HasTurnCauses turn.Served old new → Between opening start disk new
-Between-more opening start disk old new b done causes = record {
-  so_far = SoFar-more opening start.left start.taken disk old new b.so_far done.reply done.writes.replied done.writes causes.few;
+pub Between-more : (cache : ℕ) (opening : State) (start : Streams) (disk : DiskView) (old new : Standing) → Between cache opening start disk old
+    → TurnDoes turn.Served old new → HasTurnCauses turn.Served old new → Between cache opening start disk new
+Between-more cache opening start disk old new b done causes = record {
+  so_far = SoFar-more cache opening start.left start.taken disk old new b.so_far done.reply done.writes.replied done.writes causes.few;
   sent = λ first. done.sent;
   reads_later = omega (arith, b.reads_later, causes.reads_later);
   writes_later = omega (arith, b.writes_later, causes.writes_later);

@@ -9,7 +9,9 @@ use Rattle.svr_edge.specs.Disk.{DiskView, IsImage, IsTornImage, Leaves, Reads}
 use Rattle.svr_journal.specs.File.{StandsFor, StandsForSome}
 use Rattle.svr_journal.specs.Opening.{AnyRose, opened_bytes}
 use Rattle.svr_core.specs.Replay.{recovered}
-use Rattle.svr_core.specs.Run.{IsRun, Turn, closes, doubtful, kept, reads_of, records_of, state_in_end}
+use Rattle.svr_core.specs.Pages.{HavePages}
+use Rattle.svr_core.specs.Reads.{ReadsIfSearch}
+use Rattle.svr_core.specs.Run.{IsRun, Turn, closes, doubtful, kept, reads_of, records_of, state_in_end, state_then}
 use Rattle.svr_core.specs.State.{Served, State, settled}
 use Rattle.svr_pages.specs.Stretch.{with_reads}
 use Rattle.svr_request.specs.declared.reply.Fault.TheVariants as fault
@@ -129,18 +131,33 @@ pub record Survives (bodies : List (List ℕ)) (turns : List Turn) (old new : Di
   -- afterwards all of them, but for one whose write failed
   pub in_end : (image : List ℕ) → IsImage new image → StandsForSome (bodies ++ flat_map kept turns) (flat_map doubtful turns) image
 
--- what the records give when they are read again
-pub record Recovers (opening : State) (turns : List Turn) : Type 0 where
+-- what records give when they are read again: each is accepted in its place, the pages of what is served stand in them, and where it is
+-- known, each slice was the next one of its merge
+pub record IsRecovered (known : Type 0) (bodies : List (List ℕ)) : Type 0 where
+  pub served : Served
+  pub gives : recovered bodies ≡ Some served
+  pub pages : HavePages bodies served.listed
+  pub lawful : known → served.lawful ≡ true
+
+-- what the records of turns give
+pub record Recovers (known : Type 0) (opening : State) (turns : List Turn) : Type 0 where
   -- those of the first turns give what was served after them, without a merge that wasn't published
   pub again : (n : ℕ) → GoesOn (take n turns)
       → recovered (opening.bodies ++ records_of (take n turns)) ≡ Some (settled (state_in_end opening (take n turns)).served)
-  -- and each of the records is accepted in its place
-  pub lawful : (first others : List (List ℕ)) → records_of turns ≡ first ++ others
-      → (served : Served) × (recovered (opening.bodies ++ first) ≡ Some served)
+  -- and so do the first ones of them, wherever they end
+  pub each : (first others : List (List ℕ)) → records_of turns ≡ first ++ others → IsRecovered known (opening.bodies ++ first)
+
+-- each search reads what it needs, no page twice, but for pages that were read before; without a cache exactly what it needs
+unfoldable pub ReadAsNeeded : Type 0 → ℕ → State → List ℕ → List Turn → Type 0
+ReadAsNeeded known cache s before [] = Unit {0}
+ReadAsNeeded known cache s before (t ∷ ts) =
+    (known → ReadsIfSearch (Contains before) cache s t) × ReadAsNeeded known cache (state_then s t) (before ++ t.reads) ts
 
 -- behind what opening read, the trace has the pages that are read for the turns, in their order
-abbrev pub ReadsBehind : List Turn → DiskView → Type 0
-ReadsBehind turns new = (opened : Option (List (ℕ × ℕ))) × (new.trace ≡ with_reads opened (reads_of turns))
+pub record ReadsBehind (known : Type 0) (cache : ℕ) (opening : State) (turns : List Turn) (new : DiskView) : Type 0 where
+  pub opened : Option (List (ℕ × ℕ))
+  pub trace : new.trace ≡ with_reads opened (reads_of turns)
+  pub needed : ReadAsNeeded known cache opening [] turns
 
 -- ---- how the program ends
 
@@ -181,8 +198,8 @@ pub record Carried (words : List (List ℕ)) (status : ℕ) (before after : Stre
   pub write : status ≡ 5 → EndsWith (Faulted fault.Write) turns × Rose old.write_faults new.write_faults
   pub going : (status ≡ 5 → ⊥) → (status ≡ 7 → ⊥) → GoesOn turns
   pub survives : StoodFor old opening.bodies → Survives opening.bodies turns old new
-  pub recovers : Recovers opening turns
-  pub reads : ReadsBehind turns new
+  pub recovers : Recovers (StoodForState old opening) opening turns
+  pub reads : ReadsBehind (StoodForState old opening) cache opening turns new
 
 -- ---- causes
 

@@ -1,6 +1,7 @@
 -- Words of private clauses: how serving ends, before the fault line.
-use Rattle.std.specs.Prelude.{◌≡◌, ◌⊎◌, ◌≤◌, ◌^◌, ℕ, List, ◌++◌, flat_map, take, Some, None, Result, Ok, Err, ⊤}
+use Rattle.std.specs.Prelude.{◌≡◌, ◌⊎◌, ◌≤◌, ◌^◌, ℕ, true, List, [], ◌++◌, flat_map, take, Some, None, Result, Ok, Err, ⊤}
 use Rattle.std.specs.Io.KnownBytes.{Appends}
+use Rattle.svr_core.specs.Pages.{HavePages}
 use Rattle.svr_core.specs.Replay.{replayed}
 use Rattle.svr_core.specs.Run.{IsRun, Turn, doubtful, kept, reads_of, records_of, state_in_end}
 use Rattle.svr_core.specs.State.{IsWithMerge, Served, State}
@@ -18,7 +19,7 @@ use Rattle.svr_serve.specs.declared.ending.Ending.TheVariants as ending
 use Rattle.svr_serve.specs.declared.session.Session.{Session}
 use Rattle.svr_serve.specs.Layout.{status_of}
 use Rattle.svr_serve.specs.Program.{Answered, EndsInBlock, EndsWith, GoesOn, IsFound, IsHalfMade, Recovers, SendsAll, Streams}
-use Rattle.svr_serve.specs.Program.{ReadsBehind, Survives, Took, TookLess, WritesPart, cache_in, lines_of, requests_in}
+use Rattle.svr_serve.specs.Program.{ReadAsNeeded, ReadsBehind, Survives, Took, TookLess, WritesPart, cache_in, lines_of, requests_in}
 use Rattle.svr_serve.specs.Turning.{IsNew}
 
 -- ---- before a request was read
@@ -72,30 +73,37 @@ pub record GivesAgain (opening : State) (turns : List Turn) : Type 0 where
   pub gives : replayed opening.bodies opening.served (records_of turns) ≡ Some next
   pub same : IsWithMerge next (state_in_end opening turns).served
 
+-- the first ones of the records, read again behind those before, are accepted
+pub record GivesFirst (known : Type 0) (opening : State) (first : List (List ℕ)) : Type 0 where
+  pub served : Served
+  pub gives : replayed opening.bodies opening.served first ≡ Some served
+  pub pages : HavePages (opening.bodies ++ first) served.listed
+  pub lawful : known → served.lawful ≡ true
+
 -- what became of the records, where the disk kept them
-pub record Stores (opening : State) (turns : List Turn) (old new : DiskView) : Type 0 where
+pub record Stores (cache : ℕ) (opening : State) (turns : List Turn) (old new : DiskView) : Type 0 where
   -- what was read
   pub trace : new.trace ≡ with_reads old.trace (reads_of turns)
+  pub needed : ReadAsNeeded (KeepsState old opening) cache opening [] turns
   pub any_moment : Keeps old opening.bodies → Leaves old new (StandsForSome opening.bodies (records_of turns))
   pub in_end : Keeps old opening.bodies → (image : List ℕ) → IsImage new image
       → StandsForSome (opening.bodies ++ flat_map kept turns) (flat_map doubtful turns) image
   pub again : (n : ℕ) → GoesOn (take n turns) → GivesAgain opening (take n turns)
-  pub lawful : (first others : List (List ℕ)) → records_of turns ≡ first ++ others
-      → (served : Served) × (replayed opening.bodies opening.served first ≡ Some served)
+  pub each : (first others : List (List ℕ)) → records_of turns ≡ first ++ others → GivesFirst (KeepsState old opening) opening first
 
-abbrev pub Carries : Ending → State → Streams → Streams → DiskView → DiskView → Type 0
-Carries e opening before after old new =
-    (turns : List Turn) × Ran (KeepsState old opening) e opening turns before after × Stores opening turns old new
+abbrev pub Carries : ℕ → Ending → State → Streams → Streams → DiskView → DiskView → Type 0
+Carries cache e opening before after old new =
+    (turns : List Turn) × Ran (KeepsState old opening) e opening turns before after × Stores cache opening turns old new
 
--- the disk was opened, and turns were carried from what it stood for
-pub record Serving (e : Ending) (before after : Streams) (old new : DiskView) : Type 0 where
+-- the disk was opened, and turns were carried from what it stood for, with so many pages to be cached
+pub record Serving (cache : ℕ) (e : Ending) (before after : Streams) (old new : DiskView) : Type 0 where
   pub opening : State
   pub turns : List Turn
   pub found : IsFound old opening
   pub ran : Ran (StoodForState old opening) e opening turns before after
-  pub reads : ReadsBehind turns new
+  pub reads : ReadsBehind (StoodForState old opening) cache opening turns new
   pub survives : StoodFor old opening.bodies → Survives opening.bodies turns old new
-  pub recovers : Recovers opening turns
+  pub recovers : Recovers (StoodForState old opening) opening turns
 
 -- ---- causes
 

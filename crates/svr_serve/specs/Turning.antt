@@ -36,7 +36,7 @@ pub record IsIdle (old new : DiskView) : Type 0 where
 
 -- a request was answered so
 pub record Answers (old new : DiskView) (store after : StoreValue) (request : Submitted) (reply : Reply) : Type 0 where
-  pub submits : (s : State) → Serves store s → Submits old new after s request reply
+  pub submits : (s : State) → Serves store s → Submits old new store after s request reply
   pub causes : SubmitCauses old new reply
 
 -- the next request was taken, and answered so

@@ -22,7 +22,8 @@ fn serve_turns<S: Source, O: Sink, D: Disk>(
     disk: &mut D,
 ) -> Ending
     requires { IsNew session.old (D.view disk.old) }
-    ensures { (opening : State) → Serves session.old.store opening → Carries result opening
+    ensures { (opening : State) → Serves session.old.store opening
+        → Carries session.old.store.pages.capacity result opening
         (streams (S.left input.old) (S.faults input.old) (O.taken output.old) (O.sent output.old) (O.faults output.old))
         (streams (S.left input.new) (S.faults input.new) (O.taken output.new) (O.sent output.new) (O.faults output.new))
         (D.view disk.old) (D.view disk.new)
@@ -52,7 +53,7 @@ fn serve<S: Source, O: Sink, D: Disk>(
         (streams (S.left input.old) (S.faults input.old) (O.taken output.old) (O.sent output.old) (O.faults output.old))
         (streams (S.left input.new) (S.faults input.new) (O.taken output.new) (O.sent output.new) (O.faults output.new))
         (D.view disk.old) (D.view disk.new)
-        ⊎ Serving result
+        ⊎ Serving cache result
         (streams (S.left input.old) (S.faults input.old) (O.taken output.old) (O.sent output.old) (O.faults output.old))
         (streams (S.left input.new) (S.faults input.new) (O.taken output.new) (O.sent output.new) (O.faults output.new))
         (D.view disk.old) (D.view disk.new) }

@@ -23,6 +23,10 @@ use Rattle.svr_core.specs.Edits.{counted, relisted, served_with, slice_with, tak
 use Rattle.svr_core.specs.Kept.{ServesAs}
 use Rattle.svr_core.specs.Outcomes.{Outcome, merges, outcome_of}
 use Rattle.svr_core.specs.Pages.{HavePages}
+use Rattle.svr_core.specs.Reads.{IsFound}
+use Rattle.svr_core.proofs.Reading.{reads-unfound}
+use Rattle.svr_pages.specs.Stretch.{IsCached}
+use Rattle.svr_store.proofs.Caching.{keeps-same}
 use Rattle.svr_core.specs.Replay.{after_body, after_record, replayed}
 use Rattle.svr_core.specs.Run.{ComesSingle, Due, IsAccepted, IsBroken, IsDue, IsForcedBy, IsForcedPlain, IsForcedStep, Turn, answer_due, closes, doubtful, due_by, due_of, kept}
 use Rattle.svr_core.specs.Run.{edit_due, has_room, is_in_doubt, reply_to, served_then, state_then, step_due, terms_reply}
@@ -159,8 +163,8 @@ module _ (old new : DiskView) (s : State) (request : Submitted) (entry : Entry) 
   beside n (edit.Load at rows) none = absurd cc
   beside n edit.Publish none = absurd cc
 
-  module _ (store : StoreValue) (reply : Reply) where
-    submits : Came reply
+  module _ (start store : StoreValue) (reply : Reply) where
+    submits : Came reply → (IsFound reply → ⊥) → store.pages ≡ start.pages
         → (closes reply ≡ false → Serves store (state_then s (with_record reply)))
         → (closes reply ≡ false → after ≡ served_then s (with_record reply) reply)
         → new.trace ≡ old.trace
@@ -169,8 +173,8 @@ module _ (old new : DiskView) (s : State) (request : Submitted) (entry : Entry) 
         → (Keeps old s.bodies → is_in_doubt reply ≡ true → (image : List ℕ) → IsImage new image
         → StandsForSome (s.bodies ++ kept (with_record reply)) (doubtful (with_record reply)) image)
         → ((n : ℕ) → reply ≡ Left n → counted entry.edit ≡ 0)
-        → SubmitsUnread old new store s request reply
-    submits came serves same trace any_moment keeps in_doubt left = record {
+        → SubmitsUnread old new start store s request reply
+    submits came unfound cached serves same trace any_moment keeps in_doubt left = record {
       submits = record {
         submits = record {
           turn = with_record reply;
@@ -179,6 +183,11 @@ module _ (old new : DiskView) (s : State) (request : Submitted) (entry : Entry) 
           is = by_single (KeepsState old s) s (with_record reply) (outcome_of s.served request) comes_single
               (record { came = came; reads = λ kept weight. omega arith });
           trace = trace ∙ sym (with_reads-none old.trace);
+          caches = record {
+            keeps = keeps-same [] start.pages store.pages cached;
+            search = λ _. reads-unfound (λ at. IsCached at start.pages) start.pages.capacity s (with_record reply) unfound refl;
+          };
+          spelled = (record { kept = is.kept; is_record = is.is_record; spelled = is.body }, tt);
           serves = serves;
           next = after;
           replays = replays;
@@ -249,10 +258,10 @@ module _ (old new : DiskView) (s : State) (request : Submitted) (entry : Entry) 
   ]
 
   -- a write failed: the record is there or not
-  pub write_unread : (store : StoreValue) → IsDisk new → end_of s.bodies + 6 + length entry.body ≤ 2 ^ 40 → new.trace ≡ old.trace
-      → (Keeps old s.bodies → Leaves old new (StandsForSome s.bodies (entry.body ∷ []))) → SubmitsUnread old new store s request (Faulted fault.Write)
-  write_unread store laws fits trace any_moment =
-      submits store (Faulted fault.Write) (closing_came fits (Faulted fault.Write) tt)
+  pub write_unread : (start store : StoreValue) → store.pages ≡ start.pages → IsDisk new → end_of s.bodies + 6 + length entry.body ≤ 2 ^ 40 → new.trace ≡ old.trace
+      → (Keeps old s.bodies → Leaves old new (StandsForSome s.bodies (entry.body ∷ []))) → SubmitsUnread old new start store s request (Faulted fault.Write)
+  write_unread start store cached laws fits trace any_moment =
+      submits start store (Faulted fault.Write) (closing_came fits (Faulted fault.Write) tt) (λ found. found) cached
       (λ open_still. absurd cc) (λ open_still. absurd cc) trace any_moment (λ _ certain. absurd cc)
       (λ keeps doubt image there. subst (λ (bs : List (List ℕ)). StandsForSome bs (entry.body ∷ []) image) (sym (append-nil s.bodies))
       (some_in_doubt old new laws s.bodies (entry.body ∷ []) keeps (any_moment keeps) image there))
@@ -263,9 +272,9 @@ module _ (old new : DiskView) (s : State) (request : Submitted) (entry : Entry) 
       (keeps : Keeps old s.bodies → Keeps new (s.bodies ++ entry.body ∷ [])) (start : StoreValue) (serves : IsBefore start s)
       (at_end : start.end ≡ end_of s.bodies + 5 + length entry.body) where
     -- memory was wanting once the record was there
-    memory_unread : (store : StoreValue) → SubmitsUnread old new store s request (Faulted fault.Memory)
-    memory_unread store =
-        submits store (Faulted fault.Memory) (closing_came fits (Faulted fault.Memory) tt)
+    memory_unread : (before store : StoreValue) → store.pages ≡ before.pages → SubmitsUnread old new before store s request (Faulted fault.Memory)
+    memory_unread before store cached =
+        submits before store (Faulted fault.Memory) (closing_came fits (Faulted fault.Memory) tt) (λ found. found) cached
         (λ open_still. absurd cc) (λ open_still. absurd cc) trace any_moment (λ kept _. keeps kept) (λ kept doubt. absurd cc)
         (λ n is_left. absurd cc)
 
@@ -279,23 +288,26 @@ module _ (old new : DiskView) (s : State) (request : Submitted) (entry : Entry) 
       end = ap (λ (v : StoreValue). v.end) made.others ∙ at_end ∙ sym (end_of-push s.bodies entry.body);
     }
 
-    pub made_unread : (store : StoreValue) (reply : Reply) → Makes start store entry.edit reply → SubmitsUnread old new store s request reply
-    made_unread store (Accepted n) makes =
+    pub made_unread : (before store : StoreValue) → start.pages ≡ before.pages → (reply : Reply) → Makes start store entry.edit reply
+        → SubmitsUnread old new before store s request reply
+    made_unread before store cached (Accepted n) makes =
         let number : after.changes ≡ s.served.changes + 1 = ap (λ (k : ℕ). s.served.changes + k) makes.0 in
         let same : Accepted n ≡ reply_to after entry.edit =
         ap Accepted (makes.1 ∙ ap (λ (k : ℕ). k + 1) serves.serves.changes ∙ sym number) ∙ sym (reply_numbered after entry.edit makes.0) in
-        submits store (Accepted n) (made_came fits (Accepted n) tt (λ known. same) (λ counts. same))
+        submits before store (Accepted n) (made_came fits (Accepted n) tt (λ known. same) (λ counts. same)) (λ found. found)
+        (ap (λ (v : StoreValue). v.pages) makes.2.others ∙ cached)
         (λ _. serves_after store makes.2 (served_then s (with_record (Accepted n)) (Accepted n)) replayed_is)
         (λ _. sym replayed_is) trace any_moment (λ kept _. keeps kept) (λ kept doubt. absurd cc) (λ n is_left. absurd cc)
-    made_unread store (Left n) makes =
+    made_unread before store cached (Left n) makes =
         let same : KeepsState old s → Left n ≡ reply_to after entry.edit = λ known.
         ap Left (makes.1 after (makes.2.serves s.served serves.serves is.is_ready) (is.lawful known))
         ∙ sym (reply_uncounted after entry.edit makes.0) in
-        submits store (Left n) (made_came fits (Left n) tt same (λ counts. absurd (let zero_one : 0 ≡ 1 = sym makes.0 ∙ counts in cc)))
+        submits before store (Left n) (made_came fits (Left n) tt same (λ counts. absurd (let zero_one : 0 ≡ 1 = sym makes.0 ∙ counts in cc)))
+        (λ found. found) (ap (λ (v : StoreValue). v.pages) makes.2.others ∙ cached)
         (λ _. serves_after store makes.2 (served_then s (with_record (Left n)) (Left n)) replayed_is)
         (λ _. sym replayed_is) trace any_moment (λ kept _. keeps kept) (λ kept doubt. absurd cc) (λ m is_left. makes.0)
-    made_unread store (Faulted fault.Memory) makes = memory_unread store
-    made_unread store _ makes = absurd makes
+    made_unread before store cached (Faulted fault.Memory) makes = memory_unread before store (makes.1 ∙ cached)
+    made_unread before store cached _ makes = absurd makes
 
 -- an edit that was made leaves a store open
 pub opened_behind : (start store : StoreValue) (e : Edit) (reply : Reply) (disk : DiskView) → Makes start store e reply → closes reply ≡ false

@@ -1,5 +1,7 @@
 pub mod Appended
+pub mod Caching
 pub mod Entries
+pub mod Fetched
 pub mod Kept
 pub mod Opened
 pub mod Planning

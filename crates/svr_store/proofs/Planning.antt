@@ -4,6 +4,7 @@ use Rattle.std.specs.List.{sum_by}
 use Rattle.std.specs.Option.{ForSome, IsSome, option_and_then, option_map}
 use Rattle.std.proofs.lemmas.List.Sums.{sum_by-append}
 use Rattle.svr_catalog.specs.Stands.{CatalogValue, Stands}
+use Rattle.std.specs.Result.{IsOk}
 use Rattle.svr_edge.specs.Causes.{Rose}
 use Rattle.svr_edge.specs.Disk.{DiskView}
 use Rattle.svr_iter.specs.Asked.{Stops}
@@ -82,15 +83,16 @@ module _ {R D : Type 0} (view : D → DiskView) (reach_of : R → ℕ) (disk_of 
       → IsReady (reach_of old) (view (disk_of old)) (pages_of old)
       → IfOk result (λ entry. (s : State) → ServesAs core s.served → reach_of old ≡ end_of s.bodies → PlansSlice (told old) core s most entry)
       → (result ≡ Err (scan.Page page.Read) → Rose (view (disk_of old)).read_faults (view (disk_of new)).read_faults)
-      → PlansNext core most (reach_of old) (view (disk_of old)) (view (disk_of new)) result
+      → PlansNext core most (reach_of old) (view (disk_of old)) (view (disk_of new)) (pages_of old) (pages_of new) result
   plans_next result asks tells ready plans rose =
-      let stretched : Stretched view reach_of disk_of pages_of gives fails (asks.given ++ asks.left) old new =
+      let stretched : Stretched view reach_of disk_of pages_of gives fails (IsOk result) (asks.given ++ asks.left) old new =
       stops-stretched view reach_of disk_of pages_of gives fails gave failed asks.given asks.left old asks.between new result ready asks.in_turn
       asks.stops in
       let between = stretch-same gives told same_told asks.given old asks.between asks.in_turn in
       record {
         reads = stretched.reads;
         disk = stretched.disk;
+        keeps = stretched.keeps;
         plans = λ s serves at_end. planned result plans s serves at_end;
         sound = λ v serves. subst (λ (t : Option (List ℕ)). IsNoFault (IsKnown t v) result) tells
             (sound asks.given asks.left asks.between result between asks.stops v serves (asks.are_needed v serves));

@@ -1,7 +1,8 @@
 -- What a search over the pages of a disk comes to.
-use Rattle.std.proofs.Common.{◌≡◌, ◌≤◌, true, ℕ, List, [], ◌∷◌, ◌++◌, map, take, Option, None, Some, Result, Ok, Err, IfOk, refl, sym, subst, ◌∙◌, arith}
+use Rattle.std.proofs.Common.{◌≡◌, ◌⊎◌, ◌≤◌, true, ℕ, Contains, List, [], ◌∷◌, ◌++◌, map, take, Option, None, Some, Result, Ok, Err, IfOk, refl, sym, ap, subst, ◌∙◌, arith}
 use Rattle.std.specs.List.{sum_by}
 use Rattle.std.specs.Option.{ForSome, IsSome, option_map}
+use Rattle.std.specs.Result.{IsOk}
 use Rattle.std.proofs.lemmas.List.Sums.{sum_by-append, sum_by-cons}
 use Rattle.svr_edge.specs.Causes.{Rose}
 use Rattle.svr_edge.specs.Disk.{DiskView}
@@ -12,6 +13,7 @@ use Rattle.svr_iter.specs.declared.fault.ScanFault.TheVariants as scan
 use Rattle.svr_listing.specs.Kept.{HoldsPosted, IsListing}
 use Rattle.svr_pages.specs.Asked.{IsReady}
 use Rattle.svr_pages.specs.Cached.{CachedPages}
+use Rattle.svr_pages.specs.Stretch.{IsCached}
 use Rattle.svr_pages.proofs.Stretching.{Means, stretch-same}
 use Rattle.svr_postpage.specs.Pages.{bytes_at}
 use Rattle.svr_postpage.specs.Wanted.{TellsDamage, damage_in, pairs_told}
@@ -28,9 +30,11 @@ use Rattle.svr_core.specs.Asked.{AsksNeeded}
 use Rattle.svr_catalog.specs.Stands.{CatalogValue, Stands}
 use Rattle.svr_core.specs.Kept.{CoreValue, ServesAs, catalog_of}
 use Rattle.svr_core.specs.Merges.{IsKnown}
+use Rattle.svr_core.specs.Reads.{IsFound}
 use Rattle.svr_core.specs.Run.{pages_needed}
 use Rattle.svr_core.specs.State.{Served}
 use Rattle.svr_store.specs.Finding.{CameTo, Finds, reply_of}
+use Rattle.svr_store.proofs.Fetched.{asked-there}
 use Rattle.svr_store.proofs.Stretched.{FailMeans, Stretched, stops-stretched}
 use Rattle.svr_store.proofs.Undamaged.{asked-undamaged}
 
@@ -60,7 +64,7 @@ module _ {R D : Type 0} (view : D → DiskView) (reach_of : R → ℕ) (disk_of 
     (core : CoreValue) (q : Query) (old new : R) where
   module _ (result : Result Answer ScanFault) (asks : AsksNeeded (told old) gives fails core q old new result) where
     pub stretched : IsReady (reach_of old) (view (disk_of old)) (pages_of old)
-        → Stretched view reach_of disk_of pages_of gives fails (asks.given ++ asks.left) old new
+        → Stretched view reach_of disk_of pages_of gives fails (IsOk result) (asks.given ++ asks.left) old new
     stretched ready = stops-stretched view reach_of disk_of pages_of gives fails gave failed asks.given asks.left old asks.between new
         result ready asks.in_turn asks.stops
 
@@ -89,6 +93,19 @@ module _ {R D : Type 0} (view : D → DiskView) (reach_of : R → ℕ) (disk_of 
   came (Err (scan.Page (page.Damaged at why))) exact given left between same stops s serves is needed =
       λ held. not-damaged given left between at why same stops s (is held) held (needed held)
 
+-- an answer was found
+found_ok : (result : Result Answer ScanFault) → IsFound (reply_of result) → IsOk result
+found_ok (Ok answer) found = refl
+found_ok (Err scan.Memory) found = absurd found
+found_ok (Err (scan.Page page.Read)) found = absurd found
+found_ok (Err (scan.Page (page.Damaged at why))) found = absurd found
+
+-- then all needed pages were asked for
+all_asked : (result : Result Answer ScanFault) (asked pages : List PageRef) → IsOk result → ArePages result asked pages
+    → (f : PageRef → ℕ) → sum_by f asked ≡ sum_by f pages
+all_asked (Ok answer) asked pages ok are = are
+all_asked (Err why) asked pages ok are = absurd cc
+
 -- a failed read is told as such alone
 failed_read : (result : Result Answer ScanFault) (P : Type 0) → (result ≡ Err (scan.Page page.Read) → P)
     → reply_of result ≡ Faulted fault.Read → P
@@ -116,13 +133,17 @@ module _ {R D : Type 0} (view : D → DiskView) (reach_of : R → ℕ) (disk_of 
       → IfOk result (λ answer. ForSome (told old) (λ bytes. (s : Served) → ServesAs core s → s.lawful ≡ true → HoldsPosted (pairs_told bytes) s.listed.listing
       → answer ≡ answer_in s q.terms q.mode q.k))
       → (result ≡ Err (scan.Page page.Read) → Rose (view (disk_of old)).read_faults (view (disk_of new)).read_faults)
-      → Finds core q (reach_of old) (view (disk_of old)) (view (disk_of new)) (reply_of result)
+      → Finds core q (reach_of old) (view (disk_of old)) (view (disk_of new)) (pages_of old) (pages_of new) (reply_of result)
   finds tells ready set exact rose =
       let s = stretched view reach_of disk_of pages_of gives fails gave failed told same_told faulty core q old new result asks ready in
       let between = stretch-same gives told same_told asks.given old asks.between asks.in_turn in
       let needed : (v : Served) → ServesAs core v → IsKnown (told old) v
       → ArePages result (asks.given ++ asks.left) (pages_needed v.listed.listing q.terms q.mode q.k) =
       λ v serves held. asks.are_needed held.bytes held.is v serves held.lawful held.holds in
+      let asked : (v : Served) → ServesAs core v → IsKnown (option_map (take (reach_of old)) (view (disk_of old)).content) v → IsOk result
+      → (f : PageRef → ℕ) → sum_by f (asks.given ++ asks.left) ≡ sum_by f (pages_needed v.listed.listing q.terms q.mode q.k) =
+      λ v serves held ok. all_asked result (asks.given ++ asks.left) (pages_needed v.listed.listing q.terms q.mode q.k) ok
+      (needed v serves (subst (λ (t : Option (List ℕ)). IsKnown t v) (sym tells) held)) in
       record {
         reads = s.reads;
         disk = s.disk;
@@ -140,5 +161,16 @@ module _ {R D : Type 0} (view : D → DiskView) (reach_of : R → ℕ) (disk_of 
               asked-weigh by_page result (asks.given ++ asks.left) all (needed v serves there),
               sum_by-at weight all,
             );
+        keeps = s.keeps;
+        each = λ v serves held found at there.
+            let ok = found_ok result found in
+            let one = asked-there (asks.given ++ asks.left) (pages_needed v.listed.listing q.terms q.mode q.k) (asked v serves held ok) at there in
+            subst (λ (a : ℕ). Contains s.reads a ⊎ IsCached a (pages_of old)) one.1.1 ((s.given ok).each one.0 one.1.0);
+        exact = λ v serves held found none weight.
+            let ok = found_ok result found in
+            let all = pages_needed v.listed.listing q.terms q.mode q.k in
+            let by_page : PageRef → ℕ = λ (p : PageRef). weight p.at in
+            ap (sum_by weight) ((s.given ok).all none) ∙ sum_by-at weight (asks.given ++ asks.left) ∙ asked v serves held ok by_page
+            ∙ sym (sum_by-at weight all);
         read = failed_read result (Rose (view (disk_of old)).read_faults (view (disk_of new)).read_faults) rose;
       }

@@ -1,6 +1,6 @@
 -- A turn for which the pages of a merge's next slice were read.
 use Rattle.std.proofs.Common.{◌≡◌, ◌≤◌, ℕ, true, false, inr, List, [], ◌++◌, map, take, Option, None, Some, unwrap_or, Result, Ok, Err, IfOk}
-use Rattle.std.proofs.Common.{refl, sym, ap, ◌∙◌, subst, arith}
+use Rattle.std.proofs.Common.{refl, sym, ap, ◌∙◌, subst, arith, append-nil}
 use Rattle.std.specs.List.{sum_by}
 use Rattle.std.specs.Option.{IsSome, is_some, option_map}
 use Rattle.svr_edge.specs.Causes.{Rose}
@@ -11,7 +11,7 @@ use Rattle.svr_iter.specs.declared.fault.ScanFault.{ScanFault}
 use Rattle.svr_iter.specs.declared.fault.ScanFault.TheVariants as scan
 use Rattle.svr_journal.specs.File.{StandsForSome}
 use Rattle.svr_listing.specs.Merges.{Merge}
-use Rattle.svr_pages.specs.Stretch.{ReadsInTurn, with_reads}
+use Rattle.svr_pages.specs.Stretch.{IsCached, ReadsInTurn, with_reads}
 use Rattle.svr_pages.proofs.Stretching.{with_reads-none}
 use Rattle.svr_postpage.specs.declared.page_ref.PageFault.TheVariants as page
 use Rattle.svr_request.specs.declared.refusal.Refusal.TheVariants as refusal
@@ -27,15 +27,18 @@ use Rattle.svr_core.specs.Merges.{IsKnown, PlansSlice}
 use Rattle.svr_core.specs.Outcomes.{Outcome, merges, outcome_of}
 use Rattle.svr_core.specs.Run.{ComesSingle, Due, IsForcedStep, IsOfMerge, IsSingle, IsUnsliced, ReadsNeeded, Turn}
 use Rattle.svr_core.specs.Run.{answer_due, is_in_doubt, needed_by, pages_for, served_then, slice_due, state_then, step_due}
+use Rattle.svr_core.proofs.Reading.{reads-step}
 use Rattle.svr_core.proofs.Runs.{IsSingle-by, by_single, single_of}
 use Rattle.svr_core.specs.State.{IsWithMerge, Served, State}
 use Rattle.svr_core.proofs.Replayed.{replayed-none}
 use Rattle.svr_core.proofs.Slicing.{sliced_of_merge}
+use Rattle.svr_store.specs.Caching.{KeepsPages}
 use Rattle.svr_store.specs.Making.{IsDueEntry, TellsLeft}
 use Rattle.svr_store.specs.Merging.{IsNoFault, PlansNext, SubmitsOne, SubmitsUnread, reply_of_fault}
 use Rattle.svr_store.specs.Store.{KeepsState, Serves, StoreValue}
 use Rattle.svr_store.specs.Submitting.{SubmitCauses}
 use Rattle.svr_store.proofs.Appended.{forced_is}
+use Rattle.svr_store.proofs.Caching.{keeps-on}
 use Rattle.svr_store.proofs.Kept.{keeps_read, leaves_read}
 use Rattle.svr_store.proofs.Silent.{held_by, silent_one}
 use Rattle.svr_store.proofs.Steps.{step_entry_due}
@@ -66,13 +69,14 @@ needed_for : (s : State) (request : Submitted) (part : Step) → outcome_of s.se
     → ReadsNeeded (needed_by s.served (outcome_of s.served request)) t
 needed_for s request part outcome t needed = subst (λ (o : Outcome). ReadsNeeded (needed_by s.served o) t) (sym outcome) needed
 
-module _ (old mid : DiskView) (laws : IsDisk mid) (reads : List ℕ) (disk : ReadsInTurn reads old mid) where
+module _ (old mid : DiskView) (laws : IsDisk mid) (reads : List ℕ) (disk : ReadsInTurn reads old mid) (first between : StoreValue)
+    (pages : KeepsPages reads first.pages between.pages) where
   still_kept : (s : State) → KeepsState old s → KeepsState mid s
   still_kept s kept = record { keeps = keeps_read old mid laws s.bodies disk.stays kept.keeps; lawful = kept.lawful }
 
   pub behind_reads : (new : DiskView) (after : StoreValue) (s : State) (request : Submitted) (part : Step) (reply : Reply)
-      → outcome_of s.served request ≡ merges part → SubmitsUnread mid new after s request reply
-      → (KeepsState old s → AreNeeded s part reads) → SubmitsOne old new after s request reply
+      → outcome_of s.served request ≡ merges part → SubmitsUnread mid new between after s request reply
+      → (KeepsState old s → AreNeeded s part reads) → SubmitsOne old new first after s request reply
   behind_reads new after s request part reply outcome it needed =
       let one = it.submits.submits in
       let t = one.turn in
@@ -90,6 +94,13 @@ module _ (old mid : DiskView) (laws : IsDisk mid) (reads : List ℕ) (disk : Rea
             reads = λ kept. needed_for s t.request part asked (reading reads t) (needed kept);
           });
           trace = one.trace ∙ ap (with_reads mid.trace) it.unread ∙ with_reads-none mid.trace ∙ disk.trace;
+          caches = record {
+            keeps = subst (λ (l : List ℕ). KeepsPages l first.pages after.pages)
+                (ap (λ (l : List ℕ). reads ++ l) it.unread ∙ append-nil reads)
+                (keeps-on reads t.reads first.pages between.pages after.pages pages one.caches.keeps);
+            search = λ _. reads-step (λ at. IsCached at first.pages) first.pages.capacity s (reading reads t) part asked;
+          };
+          spelled = one.spelled;
           serves = λ going. subst (Serves after) same_state (one.serves going);
           next = one.next;
           replays = one.replays;
@@ -138,7 +149,7 @@ no_merge_due core s most serves none = ap (slice_due s most)
 
 module _ (old mid : DiskView) (laws : IsDisk mid) (store after : StoreValue) (s : State) (request : Submitted) (serves : Serves store s)
     (still : Serves after s) (most : ℕ) (outcome : outcome_of s.served request ≡ merges (step.Slice most)) (begun : IsSome (last_of store.core))
-    (result : Result (Option Entry) ScanFault) (plans : PlansNext store.core most store.end old mid result) where
+    (result : Result (Option Entry) ScanFault) (plans : PlansNext store.core most store.end old mid store.pages after.pages result) where
   abbrev told : Option (List ℕ)
   told = option_map (take store.end) old.content
 
@@ -153,19 +164,19 @@ module _ (old mid : DiskView) (laws : IsDisk mid) (store after : StoreValue) (s 
 
   -- nothing is appended
   quiet_slice : (reply : Reply) → IsForcedStep (KeepsState old s) (step.Slice most) reply (step_due s (step.Slice most)) []
-      → served_then s (turn reply) reply ≡ s.served → is_in_doubt reply ≡ false → SubmitsOne old mid after s request reply
+      → served_then s (turn reply) reply ≡ s.served → is_in_doubt reply ≡ false → SubmitsOne old mid store after s request reply
   quiet_slice reply forced same sure =
-      silent_one old mid laws after s request still plans.reads plans.disk reply
+      silent_one old mid laws store after s request still plans.reads plans.disk plans.keeps reply
       (by_single (KeepsState old s) s (turn reply) (outcome_of s.served request) (subst ComesSingle (sym outcome) tt) (record {
         came = inr (forced_is (KeepsState old s) s request (step.Slice most) outcome reply [] forced);
         reads = λ kept. needed_for s request (step.Slice most) outcome (turn reply) (needed kept);
-      })) same sure
+      })) (λ _. reads-step (λ at. IsCached at store.pages) store.pages.capacity s (turn reply) (step.Slice most) outcome) same sure
 
   unsliced : IsUnsliced (step.Slice most) (step_due s (step.Slice most)) []
   unsliced = record { slices = tt; of_merge = due_of_merge; added = refl }
 
   -- it couldn't be made
-  pub stopped_submits : (why : ScanFault) → result ≡ Err why → SubmitsOne old mid after s request (reply_of_fault why)
+  pub stopped_submits : (why : ScanFault) → result ≡ Err why → SubmitsOne old mid store after s request (reply_of_fault why)
   stopped_submits scan.Memory is = quiet_slice (Refused refusal.Memory) refl refl refl
   stopped_submits (scan.Page page.Read) is = quiet_slice (Faulted fault.Read) unsliced refl refl
   stopped_submits (scan.Page (page.Damaged at why)) is = quiet_slice (Faulted (fault.Damaged at)) (
@@ -179,7 +190,7 @@ module _ (old mid : DiskView) (laws : IsDisk mid) (store after : StoreValue) (s 
       (plans.plans s serves.serves serves.end)
 
   -- it has no term
-  pub left_submits : (n : ℕ) → result ≡ Ok None → TellsLeft store n → SubmitsOne old mid after s request (Left n)
+  pub left_submits : (n : ℕ) → result ≡ Ok None → TellsLeft store n → SubmitsOne old mid store after s request (Left n)
   left_submits n is tells =
       let none = planned None is in
       quiet_slice (Left n) (
@@ -198,10 +209,10 @@ module _ (old mid : DiskView) (laws : IsDisk mid) (store after : StoreValue) (s 
       (λ kept. subst (λ (content : Option (List ℕ)). IsKnown (option_map (take store.end) content) s.served) plans.disk.stays.content
       (held_by mid store s serves kept)) (planned (Some e) is)
 
-  pub entry_submits : (new : DiskView) (last : StoreValue) (reply : Reply) → SubmitsUnread mid new last s request reply
-      → SubmitsOne old new last s request reply
+  pub entry_submits : (new : DiskView) (last : StoreValue) (reply : Reply) → SubmitsUnread mid new after last s request reply
+      → SubmitsOne old new store last s request reply
   entry_submits new last reply it =
-      behind_reads old mid laws plans.reads plans.disk new last s request (step.Slice most) reply outcome it needed
+      behind_reads old mid laws plans.reads plans.disk store after plans.keeps new last s request (step.Slice most) reply outcome it needed
 
 -- a slice that couldn't be made writes nothing
 stopped_writes : (why : ScanFault) → reply_of_fault why ≡ Faulted fault.Write → ⊥
@@ -214,9 +225,9 @@ stopped_reads scan.Memory P is h = absurd cc
 stopped_reads (scan.Page page.Read) P is h = is refl
 stopped_reads (scan.Page (page.Damaged at why)) P is h = absurd cc
 
-pub stopped_causes : (core : _) (most reach : ℕ) (old new : DiskView) (result : Result (Option Entry) ScanFault)
-    → PlansNext core most reach old new result → (why : ScanFault) → result ≡ Err why → SubmitCauses old new (reply_of_fault why)
-stopped_causes core most reach old new result plans why is = record {
+pub stopped_causes : (core : _) (most reach : ℕ) (old new : DiskView) (pages kept : _) (result : Result (Option Entry) ScanFault)
+    → PlansNext core most reach old new pages kept result → (why : ScanFault) → result ≡ Err why → SubmitCauses old new (reply_of_fault why)
+stopped_causes core most reach old new pages kept result plans why is = record {
   write = λ h. absurd (stopped_writes why h);
   writes = omega (arith, plans.disk.writes);
   read = stopped_reads why (Rose old.read_faults new.read_faults)

@@ -6,7 +6,7 @@ use Rattle.std.proofs.lemmas.Bool.{false≢true}
 use Rattle.std.proofs.lemmas.Bool.Decides.{nat_tests}
 use Rattle.std.proofs.lemmas.Grind.{flat_map-append}
 use Rattle.std.specs.Option.{IsSome}
-use Rattle.std.specs.List.{flat_map}
+use Rattle.std.specs.List.{AllByRecursion, flat_map}
 use Rattle.svr_catalog.specs.Catalog.{Catalog}
 use Rattle.svr_edge.specs.Disk.{DiskView, IsImage, Leaves}
 use Rattle.svr_edge.proofs.CausesLemmas.{Rose-earlier}
@@ -14,7 +14,7 @@ use Rattle.svr_edge.proofs.DiskLemmas.{Leaves-refl, Leaves-trans}
 use Rattle.svr_journal.specs.File.{StandsForSome, end_of, front, magic, open_record}
 use Rattle.svr_listing.specs.Merges.{Merge}
 use Rattle.svr_listing.specs.Served as listing
-use Rattle.svr_pages.specs.Stretch.{with_reads}
+use Rattle.svr_pages.specs.Stretch.{IsCached, with_reads}
 use Rattle.svr_pages.proofs.Stretching.{with_reads-append, with_reads-none}
 use Rattle.svr_request.specs.declared.refusal.Refusal.TheVariants as refusal
 use Rattle.svr_request.specs.declared.reply.Reply.{Reply}
@@ -24,18 +24,21 @@ use Rattle.svr_core.specs.declared.plan.Step.{Step}
 use Rattle.svr_core.specs.declared.plan.Step.TheVariants as step
 use Rattle.svr_core.specs.Outcomes.{Outcome, merges, merges_whole, outcome_of}
 use Rattle.svr_core.specs.Kept.{ServesAs}
-use Rattle.svr_core.specs.Pages.{HavePages}
+use Rattle.svr_core.specs.Pages.{HavePages, IsSpelled}
 use Rattle.svr_core.specs.Replay.{replayed}
 use Rattle.svr_core.specs.Run.{AreSingle, AreSteps, Due, IsDue, IsForcedBy, IsForcedStep, IsOfMerge, IsSingle, IsTurn, IsTurnBy, Turn, answer_due, appends, asks_for, closes, doubtful, due_by}
 use Rattle.svr_core.specs.Run.{behind_step, is_in_doubt, kept, lawful_then, next_step, reads_of, records_of, served_then, state_in_end, state_then, step_due, unchanged}
 use Rattle.svr_core.specs.State.{IsWithMerge, Served, State, settled}
+use Rattle.svr_core.proofs.Reading.{reads-whole}
 use Rattle.svr_core.proofs.Replayed.{replayed-none}
 use Rattle.svr_core.proofs.Runs.{AreSingle-more, AreSingle-none, AreSteps-more, AreSteps-none, IsSingle-by, asks_step, bodies_in_end, going_is_sure, not_begin}
 use Rattle.svr_core.proofs.Runs.{reads_of-more, records_of-more, replayed-append, single_of, state_in_end-more}
+use Rattle.svr_store.specs.Caching.{KeepsPages}
 use Rattle.svr_store.specs.Merging.{Forgot, IsBeside, Stepped, SubmitsOne, is_accepted, keeps_merge}
 use Rattle.svr_store.specs.Store.{Keeps, KeepsState, Serves, StoreValue}
 use Rattle.svr_store.specs.Submitting.{SubmitCauses, Submits}
-use Rattle.svr_core.proofs.Standing.{pages-settled}
+use Rattle.svr_core.proofs.Standing.{all_append, pages-settled}
+use Rattle.svr_store.proofs.Caching.{keeps-none, keeps-on}
 use Rattle.svr_store.proofs.Kept.{some_behind, some_more}
 
 -- ---- places
@@ -140,12 +143,15 @@ unaccepted_is s u (Found answer) is = refl
 unaccepted_is s u (Refused why) is = refl
 unaccepted_is s u (Faulted why) is = refl
 
-pub Stepped-start : (opening : State) (start : DiskView) (store : StoreValue) → Serves store opening → Stepped opening step.Begin start start store
+pub Stepped-start : (opening : State) (start : DiskView) (store : StoreValue) → Serves store opening
+    → Stepped opening step.Begin start start store.pages store
 Stepped-start opening start store serves = record {
   steps = [];
   are = AreSteps-none (Some step.Begin);
   run = AreSingle-none (KeepsState start opening) opening;
   trace = sym (with_reads-none start.trace);
+  caches = keeps-none store.pages;
+  spelled = tt;
   serves = serves;
   any_moment = λ keeps. Leaves-refl start (StandsForSome opening.bodies []);
   keeps = λ keeps. subst (λ (bs : List (List ℕ)). Keeps start bs) (sym (append-nil opening.bodies)) keeps;
@@ -156,9 +162,9 @@ Stepped-start opening start store serves = record {
   unmerged = λ not. absurd (not refl);
 }
 
-module _ (opening : State) (set : IsSome opening.served.catalog) (part : Step) (start old new : DiskView) (store then : StoreValue)
-    (k : Stepped opening part start old store) (reply : Reply)
-    (it : SubmitsOne old new then (state_in_end opening k.steps) (asks_for part) reply) where
+module _ (opening : State) (set : IsSome opening.served.catalog) (part : Step) (start old new : DiskView) (first store then : StoreValue)
+    (k : Stepped opening part start old first.pages store) (reply : Reply)
+    (it : SubmitsOne old new store then (state_in_end opening k.steps) (asks_for part) reply) where
   abbrev state : State
   state = state_in_end opening k.steps
 
@@ -196,6 +202,14 @@ module _ (opening : State) (set : IsSome opening.served.catalog) (part : Step) (
   trace_more = it.submits.trace ∙ ap (λ t. with_reads t it.submits.turn.reads) k.trace
       ∙ with_reads-append start.trace (reads_of k.steps) t.reads
       ∙ ap (λ (l : List ℕ). with_reads start.trace l) (sym (reads_of-more k.steps t))
+
+  caches_more : KeepsPages (reads_of all) first.pages then.pages
+  caches_more = subst (λ (l : List ℕ). KeepsPages l first.pages then.pages) (sym (reads_of-more k.steps t))
+      (keeps-on (reads_of k.steps) t.reads first.pages store.pages then.pages k.caches it.submits.caches.keeps)
+
+  spelled_more : AllByRecursion IsSpelled (records_of all)
+  spelled_more = subst (AllByRecursion IsSpelled) (sym (records_of-more k.steps t))
+      (all_append IsSpelled (records_of k.steps) t.added k.spelled it.submits.spelled)
 
   bodies_more : state.bodies ++ t.added ≡ opening.bodies ++ records_of all
   bodies_more = ap (λ (bs : List (List ℕ)). bs ++ t.added) before ∙ append_assoc opening.bodies (records_of k.steps) t.added
@@ -236,7 +250,7 @@ module _ (opening : State) (set : IsSome opening.served.catalog) (part : Step) (
       ∙ ap (λ (n : ℕ). nat_lt (end_of state.bodies) n) (it.submits.serves going).end
       ∙ appends-ends state.bodies t.added
 
-  Stepped-more : (next : Step) (n : ℕ) → reply ≡ Left n → next_step part (appends t.added) reply ≡ Some next → Stepped opening next start new then
+  Stepped-more : (next : Step) (n : ℕ) → reply ≡ Left n → next_step part (appends t.added) reply ≡ Some next → Stepped opening next start new first.pages then
   Stepped-more next n left goes =
       let going : closes reply ≡ false = ap closes left in
       let same : it.submits.next ≡ (state_in_end opening all).served =
@@ -247,6 +261,8 @@ module _ (opening : State) (set : IsSome opening.served.catalog) (part : Step) (
         are = subst (λ (o : Option Step). AreSteps (Some step.Begin) all o) goes are_more;
         run = run_more;
         trace = trace_more;
+        caches = caches_more;
+        spelled = spelled_more;
         serves = subst (λ (s : State). Serves then s) (sym (state_in_end-more opening k.steps t)) (it.submits.serves going);
         any_moment = moment_more;
         keeps = λ keeps. keeps_more keeps (going_is_sure reply going);
@@ -273,7 +289,7 @@ module _ (opening : State) (set : IsSome opening.served.catalog) (part : Step) (
           by step.Publish is = k.unmerged (λ begin. (let e : step.Publish ≡ step.Begin = sym is ∙ begin in cc))
 
   -- by what the journal tells
-  pub Stepped-on : (next : Step) → next_step part (nat_lt store.end then.end) reply ≡ Some next → Stepped opening next start new then
+  pub Stepped-on : (next : Step) → next_step part (nat_lt store.end then.end) reply ≡ Some next → Stepped opening next start new first.pages then
   Stepped-on next goes =
       let left = left_of part (nat_lt store.end then.end) reply next goes in
       Stepped-more next left.0 left.1 (ap (λ (b : Bool). next_step part b reply) (sym (grown_is (ap closes left.1))) ∙ goes)
@@ -316,14 +332,19 @@ module _ (opening : State) (set : IsSome opening.served.catalog) (part : Step) (
         (subst (λ (bs : List (List ℕ)). StandsForSome (opening.bodies ++ records_of k.steps) bs image) (sym whole.1) first)
 
     -- by what is served behind it
-    submits : (last : StoreValue) → (closes reply ≡ false → Serves last (state_then opening turn))
-        → (closes reply ≡ false → IsWithMerge it.submits.next (state_then opening turn).served) → Submits start new last opening request reply
-    submits last serves same = record {
+    submits : (last : StoreValue) → last.pages ≡ then.pages → (closes reply ≡ false → Serves last (state_then opening turn))
+        → (closes reply ≡ false → IsWithMerge it.submits.next (state_then opening turn).served) → Submits start new first last opening request reply
+    submits last cached serves same = record {
       turn = turn;
       asked = refl;
       told = refl;
       is = is_turn;
       trace = trace_more;
+      caches = record {
+        keeps = subst (KeepsPages (reads_of all) first.pages) (sym cached) caches_more;
+        search = λ _. reads-whole (λ at. IsCached at first.pages) first.pages.capacity opening turn whole;
+      };
+      spelled = spelled_more;
       serves = serves;
       next = it.submits.next;
       replays = replays_all;
@@ -362,9 +383,9 @@ module _ (opening : State) (set : IsSome opening.served.catalog) (part : Step) (
             begins step.Publish keeps is = absurd (false≢true (sym is ∙ keeps))
 
     -- the merge stays as its last step has left it
-    pub whole_stays : keeps_merge part reply ≡ true → Submits start new then opening request reply
+    pub whole_stays : keeps_merge part reply ≡ true → Submits start new first then opening request reply
     whole_stays keeps =
-        submits then (λ going.
+        submits then refl (λ going.
         let same : state_then opening turn ≡ state_then state t =
         ap₂ (λ (v : Served) (bs : List (List ℕ)). record { served = v; bodies = bs })
         (sym (stays_same keeps going) ∙ it.exact going) (sym bodies_more) in
@@ -392,9 +413,9 @@ module _ (opening : State) (set : IsSome opening.served.catalog) (part : Step) (
         not_first step.Publish h is = cc
 
     -- the merge was forgotten
-    pub whole_forgotten : keeps_merge part reply ≡ false → (last : StoreValue) → Forgot then last → Submits start new last opening request reply
+    pub whole_forgotten : keeps_merge part reply ≡ false → (last : StoreValue) → Forgot then last → Submits start new first last opening request reply
     whole_forgotten left last forgot =
-        submits last (λ going.
+        submits last (ap (λ (v : StoreValue). v.pages) forgot.others) (λ going.
         let there = it.submits.serves going in
         let next_there : ServesAs then.core it.submits.next = subst (ServesAs then.core) (sym (it.exact going)) there.serves in
         let same = forgotten_is left going in
@@ -445,18 +466,18 @@ causes_after old mid new reply writes reads causes = record {
 }
 
 -- the whole merge, behind which the merge stays as its last step has left it, or is forgotten
-pub whole_by : (opening : State) (set : IsSome opening.served.catalog) (part : Step) (start old new : DiskView) (store then : StoreValue)
-    (k : Stepped opening part start old store) (reply : Reply)
-    (it : SubmitsOne old new then (state_in_end opening k.steps) (asks_for part) reply) (request : Submitted)
+pub whole_by : (opening : State) (set : IsSome opening.served.catalog) (part : Step) (start old new : DiskView) (first store then : StoreValue)
+    (k : Stepped opening part start old first.pages store) (reply : Reply)
+    (it : SubmitsOne old new store then (state_in_end opening k.steps) (asks_for part) reply) (request : Submitted)
     → outcome_of opening.served request ≡ merges_whole → next_step part (nat_lt store.end then.end) reply ≡ None → (last : StoreValue)
     → (keeps_merge part reply ≡ true → last ≡ then) → (keeps_merge part reply ≡ false → Forgot then last)
-    → Submits start new last opening request reply
-whole_by opening set part start old new store then k reply it request whole none last stays forgotten = by (keeps_merge part reply) refl
+    → Submits start new first last opening request reply
+whole_by opening set part start old new first store then k reply it request whole none last stays forgotten = by (keeps_merge part reply) refl
   where
     ends : next_step part (appends it.submits.turn.added) reply ≡ None
-    ends = ends_by opening set part start old new store then k reply it none
+    ends = ends_by opening set part start old new first store then k reply it none
 
-    by : (b : Bool) → keeps_merge part reply ≡ b → Submits start new last opening request reply
-    by true keeps = subst (λ (v : StoreValue). Submits start new v opening request reply) (sym (stays keeps))
-        (whole_stays opening set part start old new store then k reply it request whole ends keeps)
-    by false left = whole_forgotten opening set part start old new store then k reply it request whole ends left last (forgotten left)
+    by : (b : Bool) → keeps_merge part reply ≡ b → Submits start new first last opening request reply
+    by true keeps = subst (λ (v : StoreValue). Submits start new first v opening request reply) (sym (stays keeps))
+        (whole_stays opening set part start old new first store then k reply it request whole ends keeps)
+    by false left = whole_forgotten opening set part start old new first store then k reply it request whole ends left last (forgotten left)

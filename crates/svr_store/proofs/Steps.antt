@@ -37,11 +37,11 @@ module _ (disk : DiskView) (laws : IsDisk disk) (store : StoreValue) (s : State)
   single = subst ComesSingle (sym outcome) tt
 
   -- a step that is refused
-  pub step_refused : (why : Refusal) → RefusesStep s part why → SubmitsOne disk disk store s request (Refused why)
+  pub step_refused : (why : Refusal) → RefusesStep s part why → SubmitsOne disk disk store store s request (Refused why)
   step_refused refusal.Memory is = (memory_unread disk laws store s request serves).submits
   step_refused refusal.MergeUnbuilt is =
       (unread disk laws store s request serves (Refused refusal.MergeUnbuilt) single
       (inr (forced_is (KeepsState disk s) s request part outcome (Refused refusal.MergeUnbuilt) []
-      ((λ keeps. (ap (λ (d : Due). d.reply) (sym (is.0 keeps.lawful)), ap (λ (d : Due). d.added) (sym (is.0 keeps.lawful)))), is.1))) refl refl).submits
+      ((λ keeps. (ap (λ (d : Due). d.reply) (sym (is.0 keeps.lawful)), ap (λ (d : Due). d.added) (sym (is.0 keeps.lawful)))), is.1))) (λ found. found) refl refl).submits
   step_refused why is =
-      due_submits disk laws store s request serves (Refused why) single (due_is (KeepsState disk s) s request part outcome ∙ is) refl refl
+      due_submits disk laws store s request serves why single (due_is (KeepsState disk s) s request part outcome ∙ is)

@@ -1,3 +1,4 @@
+pub mod Caching
 pub mod Finding
 pub mod Making
 pub mod Merging

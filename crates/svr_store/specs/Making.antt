@@ -34,7 +34,7 @@ TellsLeft store n = (s : Served) → ServesAs store.core s → s.lawful ≡ true
 abbrev pub Makes : StoreValue → StoreValue → Edit → Reply → Type 0
 Makes old new e (Accepted n) = (counted e ≡ 1) × (n ≡ old.core.changes + 1) × ServesEdit old new e
 Makes old new e (Left n) = (counted e ≡ 0) × TellsLeft new n × ServesEdit old new e
-Makes old new e (Faulted fault.Memory) = new.closed ≡ Some closed.Memory
+Makes old new e (Faulted fault.Memory) = (new.closed ≡ Some closed.Memory) × (new.pages ≡ old.pages)
 Makes old new e _ = ⊥
 
 -- ---- what an entry is to a request

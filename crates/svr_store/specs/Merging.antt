@@ -1,11 +1,12 @@
 -- Words of private clauses: what the slice of a merge comes to over the pages of a disk.
 use Rattle.std.specs.Prelude.{◌≡◌, ◌≤◌, ◌++◌, ℕ, Bool, true, false, List, [], ◌∷◌, map, Option, None, Some, Result, Ok, Err, IfOk, take}
-use Rattle.std.specs.List.{sum_by}
+use Rattle.std.specs.List.{AllByRecursion, sum_by}
 use Rattle.std.specs.Option.{option_map}
 use Rattle.svr_edge.specs.Causes.{Rose}
 use Rattle.svr_edge.specs.Disk.{DiskView, Leaves}
 use Rattle.svr_iter.specs.declared.fault.ScanFault.{ScanFault}
 use Rattle.svr_iter.specs.declared.fault.ScanFault.TheVariants as scan
+use Rattle.svr_pages.specs.Cached.{CachedPages}
 use Rattle.svr_pages.specs.Stretch.{ReadsInTurn, with_reads}
 use Rattle.svr_postpage.specs.declared.page_ref.PageFault.TheVariants as page
 use Rattle.svr_request.specs.declared.refusal.Refusal.TheVariants as refusal
@@ -18,10 +19,12 @@ use Rattle.svr_core.specs.declared.plan.Step.{Step}
 use Rattle.svr_core.specs.declared.plan.Step.TheVariants as step
 use Rattle.svr_core.specs.Kept.{CoreValue, ServesAs}
 use Rattle.svr_core.specs.Merges.{IsKnown, PlansSlice}
+use Rattle.svr_core.specs.Pages.{IsSpelled}
 use Rattle.svr_core.specs.Replay.{replayed}
 use Rattle.svr_core.specs.Run.{AreSingle, AreSteps, Turn, closes, is_in_doubt, pages_for, reads_of, records_of, state_in_end, state_then}
 use Rattle.svr_core.specs.State.{Served, State, settled}
 use Rattle.svr_journal.specs.File.{StandsForSome, end_of}
+use Rattle.svr_store.specs.Caching.{KeepsPages}
 use Rattle.svr_store.specs.Store.{Keeps, KeepsState, Serves, StoreValue}
 use Rattle.svr_store.specs.Submitting.{Submits}
 
@@ -42,9 +45,10 @@ IsNoFault known (Ok value) = Unit {0}
 IsNoFault known (Err why) = IsNoDamage known why
 
 -- a slice was planned, or why not, and these reads of pages below a place were made for it
-pub record PlansNext (core : CoreValue) (most reach : ℕ) (old new : DiskView) (result : Result (Option Entry) ScanFault) : Type 0 where
+pub record PlansNext (core : CoreValue) (most reach : ℕ) (old new : DiskView) (pages kept : CachedPages) (result : Result (Option Entry) ScanFault) : Type 0 where
   pub reads : List ℕ
   pub disk : ReadsInTurn reads old new
+  pub keeps : KeepsPages reads pages kept
   pub plans : (s : State) → ServesAs core s.served → reach ≡ end_of s.bodies
       → IfOk result (PlansSlice (option_map (take reach) old.content) core s most)
   pub sound : (s : Served) → ServesAs core s → IsNoFault (IsKnown (option_map (take reach) old.content) s) result
@@ -61,23 +65,25 @@ pub record IsBeside (s next : Served) : Type 0 where
   pub listing : next.listed.listing ≡ s.listed.listing
 
 -- a turn that keeps one record or none: what is served is what that gives, and after the begin or slice of a merge the same but for the merge
-pub record SubmitsOne (old new : DiskView) (after : StoreValue) (s : State) (request : Submitted) (reply : Reply) : Type 0 where
-  pub submits : Submits old new after s request reply
+pub record SubmitsOne (old new : DiskView) (before after : StoreValue) (s : State) (request : Submitted) (reply : Reply) : Type 0 where
+  pub submits : Submits old new before after s request reply
   pub exact : closes reply ≡ false → submits.next ≡ (state_then s submits.turn).served
   pub beside : (n : ℕ) → reply ≡ Left n → IsBeside s.served submits.next
   pub one : is_in_doubt reply ≡ true → (body : List ℕ) × (submits.turn.added ≡ body ∷ [])
 
 -- the same where no page is read
-pub record SubmitsUnread (old new : DiskView) (after : StoreValue) (s : State) (request : Submitted) (reply : Reply) : Type 0 where
-  pub submits : SubmitsOne old new after s request reply
+pub record SubmitsUnread (old new : DiskView) (before after : StoreValue) (s : State) (request : Submitted) (reply : Reply) : Type 0 where
+  pub submits : SubmitsOne old new before after s request reply
   pub unread : submits.submits.turn.reads ≡ []
 
 -- a whole merge so far, which goes on with this step
-pub record Stepped (opening : State) (part : Step) (start now : DiskView) (store : StoreValue) : Type 0 where
+pub record Stepped (opening : State) (part : Step) (start now : DiskView) (cached : CachedPages) (store : StoreValue) : Type 0 where
   pub steps : List Turn
   pub are : AreSteps (Some step.Begin) steps (Some part)
   pub run : AreSingle (KeepsState start opening) opening steps
   pub trace : now.trace ≡ with_reads start.trace (reads_of steps)
+  pub caches : KeepsPages (reads_of steps) cached store.pages
+  pub spelled : AllByRecursion IsSpelled (records_of steps)
   pub serves : Serves store (state_in_end opening steps)
   pub any_moment : Keeps start opening.bodies → Leaves start now (StandsForSome opening.bodies (records_of steps))
   pub keeps : Keeps start opening.bodies → Keeps now (opening.bodies ++ records_of steps)

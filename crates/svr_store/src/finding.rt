@@ -44,7 +44,8 @@ pub(crate) fn find<D: Disk>(
     ensures reach { reader.new.reach ≡ reader.old.reach }
     ensures pages { reader.new.pages.ghost_name ≡ reader.old.pages.ghost_name }
     ensures disk { reader.new.disk.ghost_name ≡ reader.old.disk.ghost_name }
-    ensures finds { Finds core.now query.now reader.old.reach (D.view reader.old.disk.now) (D.view reader.new.disk.now) result }
+    ensures finds { Finds core.now query.now reader.old.reach (D.view reader.old.disk.now) (D.view reader.new.disk.now)
+        reader.old.pages.now reader.new.pages.now result }
     ensures kind { IsToSearch result }
     ensures printable { IsPrintable result }
 {

@@ -43,7 +43,7 @@ impl Store {
         requires open { IsOpen self.old (D.view disk.old) }
         requires set { IsSome (catalog_of self.old.core) }
         ensures submits { (s : State) (request : Submitted) → Serves self.old s → outcome_of s.served request ≡ merges_whole
-            → Submits (D.view disk.old) (D.view disk.new) self.new s request result }
+            → Submits (D.view disk.old) (D.view disk.new) self.old self.new s request result }
         ensures printable { IsPrintable result }
         ensures closed { self.new.closed ≡ closed_by result }
         ensures open { closes result ≡ false → IsOpen self.new (D.view disk.new) }
@@ -77,7 +77,7 @@ impl Store {
         requires open { IsOpen self.old (D.view disk.old) }
         requires set { IsSome (catalog_of self.old.core) }
         ensures submits { (s : State) (request : Submitted) → Serves self.old s → outcome_of s.served request ≡ merges part
-            → SubmitsOne (D.view disk.old) (D.view disk.new) self.new s request result }
+            → SubmitsOne (D.view disk.old) (D.view disk.new) self.old self.new s request result }
         ensures printable { IsPrintable result }
         ensures closed { self.new.closed ≡ closed_by result }
         ensures open { closes result ≡ false → IsOpen self.new (D.view disk.new) }
@@ -98,7 +98,7 @@ impl Store {
         requires open { IsOpen self.old (D.view disk.old) }
         requires set { IsSome (catalog_of self.old.core) }
         ensures submits { (s : State) (request : Submitted) → Serves self.old s → outcome_of s.served request ≡ merges step.Begin
-            → SubmitsOne (D.view disk.old) (D.view disk.new) self.new s request result }
+            → SubmitsOne (D.view disk.old) (D.view disk.new) self.old self.new s request result }
         ensures printable { IsPrintable result }
         ensures closed { self.new.closed ≡ closed_by result }
         ensures open { closes result ≡ false → IsOpen self.new (D.view disk.new) }
@@ -118,7 +118,7 @@ impl Store {
         requires open { IsOpen self.old (D.view disk.old) }
         requires set { IsSome (catalog_of self.old.core) }
         ensures submits { (s : State) (request : Submitted) → Serves self.old s → outcome_of s.served request ≡ merges step.Publish
-            → SubmitsOne (D.view disk.old) (D.view disk.new) self.new s request result }
+            → SubmitsOne (D.view disk.old) (D.view disk.new) self.old self.new s request result }
         ensures printable { IsPrintable result }
         ensures closed { self.new.closed ≡ closed_by result }
         ensures open { closes result ≡ false → IsOpen self.new (D.view disk.new) }
@@ -138,7 +138,7 @@ impl Store {
         requires open { IsOpen self.old (D.view disk.old) }
         requires set { IsSome (catalog_of self.old.core) }
         ensures submits { (s : State) (request : Submitted) → Serves self.old s → outcome_of s.served request ≡ merges (step.Slice most)
-            → SubmitsOne (D.view disk.old) (D.view disk.new) self.new s request result }
+            → SubmitsOne (D.view disk.old) (D.view disk.new) self.old self.new s request result }
         ensures printable { IsPrintable result }
         ensures closed { self.new.closed ≡ closed_by result }
         ensures open { closes result ≡ false → IsOpen self.new (D.view disk.new) }
@@ -166,7 +166,7 @@ impl Store {
     ) -> Result<Option<Entry>, ScanFault>
         requires open { IsOpen self.old (D.view disk.old) }
         requires begun { IsSome (last_of self.old.core) }
-        ensures plans { PlansNext self.old.core most self.old.end (D.view disk.old) (D.view disk.new) result }
+        ensures plans { PlansNext self.old.core most self.old.end (D.view disk.old) (D.view disk.new) self.old.pages self.new.pages result }
         ensures may { IfOk result (λ entry. ForSome entry (MayCommit self.old.core)) }
         ensures open { IsOpen self.new (D.view disk.new) }
         ensures kept { self.new ≡ record self.old { pages = self.new.pages } }
@@ -193,7 +193,8 @@ fn plan<D: Disk>(
     ensures reach { reader.new.reach ≡ reader.old.reach }
     ensures pages { reader.new.pages.ghost_name ≡ reader.old.pages.ghost_name }
     ensures disk { reader.new.disk.ghost_name ≡ reader.old.disk.ghost_name }
-    ensures plans { PlansNext core.now most reader.old.reach (D.view reader.old.disk.now) (D.view reader.new.disk.now) result }
+    ensures plans { PlansNext core.now most reader.old.reach (D.view reader.old.disk.now) (D.view reader.new.disk.now)
+        reader.old.pages.now reader.new.pages.now result }
     ensures may { IfOk result (λ entry. ForSome entry (MayCommit core.now)) }
 {
     let end = reader.reach;

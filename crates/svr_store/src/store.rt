@@ -110,7 +110,7 @@ impl Store {
         requires open { IsOpen self.old (D.view disk.old) }
         requires few { length block.now ≤ 8388608 }
         ensures submits { (s : State) → Serves self.old s
-            → Submits (D.view disk.old) (D.view disk.new) self.new s (with_block (seen_or_refused request) block.now) result }
+            → Submits (D.view disk.old) (D.view disk.new) self.old self.new s (with_block (seen_or_refused request) block.now) result }
         ensures printable { IsPrintable result }
         ensures closed { self.new.closed ≡ closed_by result }
         ensures open { closes result ≡ false → IsOpen self.new (D.view disk.new) }
@@ -131,7 +131,7 @@ impl Store {
         requires set { IsSome (catalog_of self.old.core) }
         requires query { MayAsk query.now }
         ensures submits { (s : State) (request : Submitted) → Serves self.old s → IsQuery (outcome_of s.served request) query.now
-            → Submits (D.view disk.old) (D.view disk.new) self.new s request result }
+            → Submits (D.view disk.old) (D.view disk.new) self.old self.new s request result }
         ensures printable { IsPrintable result }
         ensures closed { self.new.closed ≡ closed_by result }
         ensures open { IsOpen self.new (D.view disk.new) }
@@ -152,7 +152,7 @@ impl Store {
         requires may_come { MayCome self.old.core entry.edit }
         requires size { IsBody entry.body }
         ensures submits { (s : State) (request : Submitted) → Serves self.old s → IsDueEntry (D.view disk.old) s request entry
-            → SubmitsUnread (D.view disk.old) (D.view disk.new) self.new s request result }
+            → SubmitsUnread (D.view disk.old) (D.view disk.new) self.old self.new s request result }
         ensures printable { IsPrintable result }
         ensures closed { self.new.closed ≡ closed_by result }
         ensures open { closes result ≡ false → IsOpen self.new (D.view disk.new) }

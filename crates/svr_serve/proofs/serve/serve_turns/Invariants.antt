@@ -14,7 +14,7 @@ invariant-loop-ending g l =
     let O = g.O.Sink in
     let view = g.D.Disk.view in
     record {
-      so_far : (opening : State) → Serves l.fn.session.store opening → Between opening
+      so_far : (opening : State) → Serves l.fn.session.store opening → Between l.fn.session.store.pages.capacity opening
           (streams (S.left l.fn.input) (S.faults l.fn.input) (O.taken l.fn.output) (O.sent l.fn.output) (O.faults l.fn.output))
           (view l.fn.disk)
           (standing (streams (S.left l.input) (S.faults l.input) (O.taken l.output) (O.sent l.output) (O.faults l.output))

@@ -8,7 +8,7 @@ use Rattle.svr_store.proofs.finding.find.Goals as goal
 pub returns-clause-finds : goal.returns-clause-finds
 returns-clause-finds g c =
     subst (Finds c.args.core.now c.args.query.now c.args.reader.now.reach (g.D.Disk.view c.args.reader.now.disk.now)
-    (g.D.Disk.view c.search.new.reader.disk.now)) (sym c.reply_to.ensures.value)
+    (g.D.Disk.view c.search.new.reader.disk.now) c.args.reader.now.pages.now c.search.new.reader.pages.now) (sym c.reply_to.ensures.value)
     (finds g.D.Disk.view (λ r. r.reach) (λ r. r.disk.now) (λ r. r.pages.now) _ _
     (λ old want new given. (given.0, given.1)) (λ old want why new failed. (failed.0, failed.1)) _
     (λ old want new given. Gives-same g.D.Disk.view old.reach want old.disk.now new.disk.now old.pages.now new.pages.now new.reach given.0 given.1)

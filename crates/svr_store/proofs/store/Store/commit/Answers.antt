@@ -1,5 +1,8 @@
-use Rattle.std.proofs.Common.{◌≡◌, ◌<◌, ◌≤◌, ◌+◌, ◌^◌, ℕ, length, Result, Err, ap, ◌∙◌, arith}
+use Rattle.std.proofs.Common.{◌≡◌, ◌<◌, ◌≤◌, ◌+◌, ◌^◌, ℕ, length, Result, Err, ap, subst, ◌∙◌, arith}
 use Rattle.svr_journal.specs.declared.faults.AppendFault.{AppendFault}
+use Rattle.svr_request.specs.declared.refusal.Refusal.TheVariants as refusal
+use Rattle.svr_request.specs.declared.reply.Reply.TheVariants.{Refused}
+use Rattle.svr_store.specs.Merging.{SubmitsUnread}
 use Rattle.svr_store.specs.Store.{StoreValue}
 use Rattle.svr_pages.proofs.Grown.{ready-grown}
 use Rattle.svr_store.proofs.Appended.{made_unread, opened_behind, write_unread}
@@ -27,7 +30,7 @@ returns-in-Ok-append-clause-submits g c = λ s request serves is.
     (keeps old new s.bodies place here.end c.in-Ok.frame c.args.entry.body same c.append.new.self.end
     c.in-Ok-append.ensures.stored c.in-Ok-append.ensures.safe)
     start (record { serves = here.serves; pages = here.pages }) (omega (arith, c.in-Ok-append.ensures.end, ap length same, here.end))
-    c.make.new.self c.make.result c.make.ensures.makes
+    c.args.self.now c.make.new.self (ap (λ (v : StoreValue). v.pages) c.self.view_is) c.make.result c.make.ensures.makes
 
 pub returns-in-Err-Full-clause-submits : goal.returns-in-Err-Full-clause-submits
 returns-in-Err-Full-clause-submits g c = λ s request serves is.
@@ -40,7 +43,8 @@ returns-in-Err-Full-clause-submits g c = λ s request serves is.
     let start : StoreValue = record { core = c.self.inside.core; end = place; pages = c.self.inside.pages; closed = c.self.inside.closed } in
     let stays = full_unread old (g.met.D.Disk.laws c.args.disk.now) start s request here c.args.entry is
     (omega (arith, full, ap length same, ap length is.body, here.end)) in
-    rw (c.in-Err-Full.ensures.untouched why, c.in-Err-Full.ensures.err) stays
+    let over = subst (λ (v : StoreValue). SubmitsUnread old old v start s request (Refused refusal.JournalFull)) c.self.view_is stays in
+    rw (c.in-Err-Full.ensures.untouched why, c.in-Err-Full.ensures.err) over
 
 pub returns-clause-submits : goal.returns-clause-submits
 returns-clause-submits g c = λ s request serves is.
@@ -52,7 +56,7 @@ returns-clause-submits g c = λ s request serves is.
     let fits : place + 6 + length c.in-Ok.frame ≤ 2 ^ 40 =
     fits_unless (place + 6 + length c.in-Ok.frame) (2 ^ 40)
     (λ more. absurd (cc (c.in-Err-Write.ensures.full.1 more, c.in-Err-Write.field-0-is))) in
-    write_unread old new s request c.args.entry is _ (g.met.D.Disk.laws c.append.new.disk) (omega (arith, fits, ap length same, here.end)) c.append.ensures.trace
+    write_unread old new s request c.args.entry is c.args.self.now _ (ap (λ (v : StoreValue). v.pages) c.self.view_is) (g.met.D.Disk.laws c.append.new.disk) (omega (arith, fits, ap length same, here.end)) c.append.ensures.trace
     (any_moment old new s.bodies place here.end c.in-Ok.frame c.args.entry.body same c.append.ensures.any_moment)
 
 pub returns-in-Ok-append-clause-open : goal.returns-in-Ok-append-clause-open

@@ -35,7 +35,7 @@ returns-in_default-clause-submits g c = λ s request serves is.
     (sym (c.end-start.ensures ∙ ap (λ (v : StoreValue). v.end) c.self.view_is))
     (sym (c.end.ensures ∙ ap (λ (v : StoreValue). v.end) c.self-in-loop-next.view_is)) ∙ sym c.next.ensures in
     let ends : c.next.result ≡ None = search rules in
-    whole_by s set part (g.D.Disk.view c.args.disk.now) (g.D.Disk.view c.loop-next.disk) (g.D.Disk.view c.step-reply.new.disk) c.loop-next.self
+    whole_by s set part (g.D.Disk.view c.args.disk.now) (g.D.Disk.view c.loop-next.disk) (g.D.Disk.view c.step-reply.new.disk) c.args.self.now c.loop-next.self
     c.step-reply.new.self k c.step-reply.result it request is (told ∙ ends) c.leave.new.self c.leave.ensures.kept c.leave.ensures.left
 
 pub returns-in_default-clause-causes : goal.returns-in_default-clause-causes
@@ -60,7 +60,7 @@ loop-next-preserved-in-Some g c =
           let it = c.step-reply.ensures.submits state (asks_for part) k.serves
           (asks_step state.served part (subst (λ (o : Option Catalog). IsSome o) (sym k.beside.catalog) set)) in
           Stepped-on s set part (g.D.Disk.view c.args.disk.now) (g.D.Disk.view c.loop-next.disk) (g.D.Disk.view c.step-reply.new.disk)
-          c.loop-next.self c.step-reply.new.self k c.step-reply.result it c.in-Some.next goes;
+          c.args.self.now c.loop-next.self c.step-reply.new.self k c.step-reply.result it c.in-Some.next goes;
       is_open = c.step-reply.ensures.open going;
       set = c.step-reply.ensures.set going;
       writes = omega (arith, c.loop-next.invariant.writes, c.step-reply.ensures.causes.writes);
@@ -96,7 +96,7 @@ loop-next-preserved g c =
           let it = c.step-reply.ensures.submits state (asks_for part) k.serves
           (asks_step state.served part (subst (λ (o : Option Catalog). IsSome o) (sym k.beside.catalog) set)) in
           Stepped-on s set part (g.D.Disk.view c.args.disk.now) (g.D.Disk.view c.loop-next.disk) (g.D.Disk.view c.step-reply.new.disk)
-          c.loop-next.self c.step-reply.new.self k c.step-reply.result it c.in-Some.next goes;
+          c.args.self.now c.loop-next.self c.step-reply.new.self k c.step-reply.result it c.in-Some.next goes;
       is_open = c.step-reply.ensures.open going;
       set = c.step-reply.ensures.set going;
       writes = omega (arith, c.loop-next.invariant.writes, c.step-reply.ensures.causes.writes);

@@ -10,7 +10,7 @@ use Rattle.svr_store.proofs.store.Store.merge.Given as goal
 -- the steps so far, and requests are still answered
 abbrev pub invariant-loop-next : goal.invariant-loop-next
 invariant-loop-next g l = record {
-  steps : (s : State) → Serves l.fn.self s → IsSome s.served.catalog → Stepped s l.part (g.D.Disk.view l.fn.disk) (g.D.Disk.view l.disk) l.self;
+  steps : (s : State) → Serves l.fn.self s → IsSome s.served.catalog → Stepped s l.part (g.D.Disk.view l.fn.disk) (g.D.Disk.view l.disk) l.fn.self.pages l.self;
   is_open : IsOpen l.self (g.D.Disk.view l.disk);
   set : IsSome (catalog_of l.self.core);
   writes : (g.D.Disk.view l.fn.disk).write_faults ≤ (g.D.Disk.view l.disk).write_faults;

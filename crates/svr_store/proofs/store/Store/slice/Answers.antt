@@ -76,6 +76,6 @@ returns-in-Err-clause-submits g c = λ s request serves is.
     let still = serves_pages store after s c.plan_slice.ensures.kept serves in
     let begun = subst (λ (core : CoreValue). IsSome (last_of core)) (ap (λ (v : StoreValue). v.core) c.self.view_is)
     (sym c.is_merging.ensures ∙ c.if-not-is_merging.false) in
-    subst (SubmitsOne old mid after s request) (sym c.stopped.ensures.value)
+    subst (SubmitsOne old mid store after s request) (sym c.stopped.ensures.value)
     (stopped_submits old mid laws store after s request serves still c.args.most is begun c.plan_slice.result c.plan_slice.ensures.plans c.in-Err.fault
     c.in-Err.is)
